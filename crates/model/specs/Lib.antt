@@ -1,0 +1,5 @@
+pub mod Principals
+pub mod Privileges
+pub mod States
+pub mod Joining
+pub mod Allowed

@@ -1,0 +1,7 @@
+// The words of the model: who acts, on what, which privileges there are, and in which states.
+pub mod cell;
+pub mod kind;
+pub mod object;
+pub mod principal;
+pub mod privilege;
+pub mod scale;

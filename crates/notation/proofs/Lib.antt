@@ -1,0 +1,6 @@
+pub mod ComposeLaws
+pub mod Heads
+pub mod ListLaws
+pub mod Showing
+pub mod Splitting
+pub mod Stating
