@@ -4,3 +4,4 @@ pub mod ListLaws
 pub mod Showing
 pub mod Splitting
 pub mod Stating
+pub mod Visible

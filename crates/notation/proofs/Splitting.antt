@@ -9,9 +9,9 @@ use lib.Dec.{eqb}
 use lib.ListN.{length, getD, take, drop, length-drop}
 use Rattle.std.proofs.shelf.Elements.{all-from-getD}
 use Rattle.std.proofs.shelf.Lists.{drop-all, drop-drop, drop-more, getD-take, getD-drop, take-append-drop, take-all, length-take-le}
-use Rattle.std.proofs.shelf.Tests.{cases-lt, cond-false, ne-eqb}
+use Rattle.std.proofs.shelf.Tests.{cases-lt, cond-true, cond-false, eq-eqb, ne-eqb}
 use Rattle.std.specs.shelf.Lists.{All}
-use Rattle.notation.specs.Lines.{lines, with-first, skipped, kept}
+use Rattle.notation.specs.Lines.{lines, with-first, unremarked, skipped, kept}
 
 abbrev pub NoFeed : ℕ → Type 0
 NoFeed b = b ≡ 10 → ⊥
@@ -71,3 +71,10 @@ kept-more (k ∷ ls) l =
       | true ↦ kept-more ls l
       | false ↦ ap (λ xs. k ∷ xs) (kept-more ls l)
     ]
+
+-- a remark begins at the first tab
+pub unremarked-tab : (b : ℕ) (bs : List ℕ) → b ≡ 9 → unremarked (b ∷ bs) ≡ []
+unremarked-tab b bs e = cond-true (eqb b 9) [] (b ∷ unremarked bs) (eq-eqb b 9 e)
+
+pub unremarked-more : (b : ℕ) (bs : List ℕ) → (b ≡ 9 → ⊥) → unremarked (b ∷ bs) ≡ b ∷ unremarked bs
+unremarked-more b bs n = cond-false (eqb b 9) [] (b ∷ unremarked bs) (ne-eqb b 9 n)

@@ -6,8 +6,9 @@ use mathlib.Core.Logic.{_⊎_}
 use Prim.Native.Nat.{ℕ, _+_, _<_}
 use Rattle.reading.specs.Records.{Frame}
 use Rattle.reading.specs.Cut.{bytes-of}
+use Rattle.notation.specs.declared.bodies.Bodies.{Bodies}
 use Rattle.notation.specs.Lines.{skipped}
-use Rattle.notation.specs.Shown.{line, Statable}
+use Rattle.notation.specs.Shown.{line, Statable, Passes}
 
 abbrev pub Digit : ℕ → ℕ → Type 0
 Digit c d = (d < 10) × (c ≡ 48 + d)
@@ -16,19 +17,20 @@ abbrev pub NoDigit : ℕ → Type 0
 NoDigit c = (d : ℕ) → d < 10 → c ≡ 48 + d → ⊥
 
 -- the line is that of a record, whose bytes are added
-pub record Added (l before after : List ℕ) : Type 0 where
+pub record Added (bodies : Bodies) (l before after : List ℕ) : Type 0 where
   pub record-of : Frame
   pub statable : Statable record-of
+  pub passes : Passes bodies (record-of .body)
   pub is : line record-of ≡ l
   pub adds : after ≡ before ++ bytes-of record-of
 
--- the line is that of no record
-abbrev pub NotAdded : List ℕ → Type 0
-NotAdded l = (f : Frame) → Statable f → line f ≡ l → ⊥
+-- the line is that of no record that passes
+abbrev pub NotAdded : Bodies → List ℕ → Type 0
+NotAdded bodies l = (f : Frame) → Statable f → Passes bodies (f .body) → line f ≡ l → ⊥
 
 -- a line is skipped and adds nothing, or adds its record
-abbrev pub Taken : List ℕ → List ℕ → List ℕ → Type 0
-Taken l before after = ((skipped l ≡ true) × (after ≡ before)) ⊎ ((skipped l ≡ false) × Added l before after)
+abbrev pub Taken : Bodies → List ℕ → List ℕ → List ℕ → Type 0
+Taken bodies l before after = ((skipped l ≡ true) × (after ≡ before)) ⊎ ((skipped l ≡ false) × Added bodies l before after)
 
-abbrev pub NotTaken : List ℕ → Type 0
-NotTaken l = (skipped l ≡ false) × NotAdded l
+abbrev pub NotTaken : Bodies → List ℕ → Type 0
+NotTaken bodies l = (skipped l ≡ false) × NotAdded bodies l

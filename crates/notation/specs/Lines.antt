@@ -1,6 +1,6 @@
 -- The lines of a text, and which of them state nothing.
 use mathlib.Core.Bool.{Bool, true, cond, _&&_, _||_}
-use mathlib.Core.List.{List, [], _∷_}
+use mathlib.Core.List.{List, [], _∷_, map}
 use Prim.Native.Nat.{ℕ}
 use lib.Dec.{eqb}
 
@@ -13,20 +13,26 @@ abbrev pub lines : List ℕ → List (List ℕ)
 lines [] = []
 lines (b ∷ bs) = cond (eqb b 10) ([] ∷ lines bs) (with-first b (lines bs))
 
--- a space or a tab
-abbrev pub space : ℕ → Bool
-space b = eqb b 32 || eqb b 9
+-- a line up to its remark, which begins with a tab
+abbrev pub unremarked : List ℕ → List ℕ
+unremarked [] = []
+unremarked (b ∷ bs) = cond (eqb b 9) [] (b ∷ unremarked bs)
 
+-- nothing but spaces
 abbrev pub blank : List ℕ → Bool
 blank [] = true
-blank (b ∷ bs) = space b && blank bs
+blank (b ∷ bs) = eqb b 32 && blank bs
 
 -- a blank line, or one that begins with #
 abbrev pub skipped : List ℕ → Bool
 skipped [] = true
 skipped (b ∷ bs) = eqb b 35 || blank (b ∷ bs)
 
--- the lines that state something
+-- the lines that are not skipped
 abbrev pub kept : List (List ℕ) → List (List ℕ)
 kept [] = []
 kept (l ∷ ls) = cond (skipped l) (kept ls) (l ∷ kept ls)
+
+-- what the lines of a text state, without remarks
+abbrev pub statements : List ℕ → List (List ℕ)
+statements text = kept (map unremarked (lines text))

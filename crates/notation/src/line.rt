@@ -6,17 +6,20 @@ ghost use lib.ListN.{length, drop};
 ghost use Rattle.std.specs.Of.Vec.{vec-items};
 ghost use Rattle.std.specs.Options.{Cases as BySome};
 ghost use Rattle.std.specs.Results.{Cases};
-ghost use Rattle.std.specs.Orderings.{When};
+ghost use Rattle.std.specs.Orderings.{Decides, When};
 ghost use Rattle.std.specs.Vec.{made};
 ghost use Rattle.std.specs.shelf.Lists.{All, joined};
 ghost use Rattle.reading.specs.Records.{Frame};
-ghost use Rattle.notation.specs.Shown.{head, shown, Byte};
+ghost use Rattle.notation.specs.Shown.{head, shown, Byte, Passes};
+ghost use Rattle.notation.specs.declared.bodies.Bodies.the-variants.{Sentences};
 ghost use Rattle.notation.specs.Adding.{Digit, NoDigit, Added, NotAdded};
+use crate::bodies::Bodies;
 use crate::escape::byte_at;
 use reading::writing::WriteFault;
 use reading::writing::write;
 use std::alloc::AllocError;
 use std::alloc::Global;
+use wording::sentence_of;
 
 // The value of a decimal digit.
 fn digit(c: u8) -> Option<u8>
@@ -77,9 +80,14 @@ fn body_of(heap: Global, line: &[u8], start: usize) -> Result<Option<Vec<u8>>, A
     Ok(Some(body))
 }
 
-// Adds the record that a line states; false, and nothing added, where it states none.
-pub(crate) fn add_line(heap: Global, out: &mut Vec<u8>, line: &[u8]) -> Result<bool, AllocError>
-    ensures { λ r. ⌜ Cases r (λ b. When b (Added (now (line .entry)) (vec-items (now (out .entry))) (vec-items (now (out .exit)))) (NotAdded (now (line .entry)) × (vec-items (now (out .exit)) ≡ vec-items (now (out .entry))))) (λ _. vec-items (now (out .exit)) ≡ vec-items (now (out .entry))) ⌝ }
+// Adds the record that a line states; false, and nothing added, where it states none that passes.
+pub(crate) fn add_line(
+    heap: Global,
+    out: &mut Vec<u8>,
+    line: &[u8],
+    bodies: Bodies,
+) -> Result<bool, AllocError>
+    ensures { λ r. ⌜ Cases r (λ b. When b (Added bodies (now (line .entry)) (vec-items (now (out .entry))) (vec-items (now (out .exit)))) (NotAdded bodies (now (line .entry)) × (vec-items (now (out .exit)) ≡ vec-items (now (out .entry))))) (λ _. vec-items (now (out .exit)) ≡ vec-items (now (out .entry))) ⌝ }
 {
     let Some((issuer, start)) = issuer_of(line) else {
         return Ok(false);
@@ -87,12 +95,35 @@ pub(crate) fn add_line(heap: Global, out: &mut Vec<u8>, line: &[u8]) -> Result<b
     let Some(body) = body_of(heap, line, start)? else {
         return Ok(false);
     };
-    let Err(fault) = write(out, issuer, body.as_slice()) else {
+    let bytes = body.as_slice();
+    if !passes(bodies, bytes) {
+        return Ok(false);
+    }
+    let Err(fault) = write(out, issuer, bytes) else {
         return Ok(true);
     };
     match fault {
         WriteFault::Memory => Err(AllocError),
         WriteFault::Issuer => Ok(false),
         WriteFault::Length => Ok(false),
+    }
+}
+
+// Whether a body may be composed.
+fn passes(bodies: Bodies, body: &[u8]) -> bool
+    ensures { λ r. ⌜ Decides r (Passes bodies (now (body .entry))) ⌝ }
+{
+    match bodies {
+        Bodies::Any => true,
+        Bodies::Sentences => is_sentence(body),
+    }
+}
+
+fn is_sentence(body: &[u8]) -> bool
+    ensures { λ r. ⌜ Decides r (Passes Sentences (now (body .entry))) ⌝ }
+{
+    match sentence_of(body) {
+        Ok(_) => true,
+        Err(_) => false,
     }
 }

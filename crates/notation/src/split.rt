@@ -2,7 +2,7 @@
 ghost use mathlib.Core.Path.{_≡_};
 ghost use Prim.Native.Nat.{ℕ, _<_, _≤_};
 ghost use lib.ListN.{length, getD};
-ghost use Rattle.notation.specs.Lines.{skipped, blank, space};
+ghost use Rattle.notation.specs.Lines.{skipped, blank, unremarked};
 
 // Where the line that starts at an offset ends: at a line feed, or at the end of the text.
 pub(crate) fn line_end(text: &[u8], at: usize) -> usize
@@ -18,6 +18,18 @@ pub(crate) fn line_end(text: &[u8], at: usize) -> usize
         }
     }
     text.len()
+}
+
+// A line up to its remark.
+pub(crate) fn statement(line: &[u8]) -> &[u8]
+    ensures { λ r. ⌜ now r ≡ unremarked (now (line .entry)) ⌝ }
+{
+    for i in 0..line.len() {
+        if line[i] == b'\t' {
+            return &line[0..i];
+        }
+    }
+    line
 }
 
 // Whether a line is blank, or a comment.
@@ -37,15 +49,9 @@ fn is_blank(line: &[u8]) -> bool
     ensures { λ r. ⌜ r ≡ blank (now (line .entry)) ⌝ }
 {
     for b in line {
-        if !is_space(*b) {
+        if *b != b' ' {
             return false;
         }
     }
     true
-}
-
-fn is_space(b: u8) -> bool
-    ensures { λ r. ⌜ r ≡ space b ⌝ }
-{
-    b == b' ' || b == b'\t'
 }

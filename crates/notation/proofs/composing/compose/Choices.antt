@@ -5,7 +5,7 @@ use Rattle.notation.proofs.ComposeLaws.{Going}
 use Rattle.notation.proofs.composing.compose.Given as given
 
 abbrev pub Inv-loop-at : given.InvT-loop-at
-Inv-loop-at l = Going (l .text) (l .at) (l .number) (vec-items (l .out))
+Inv-loop-at l = Going (l .bodies) (l .text) (l .at) (l .number) (vec-items (l .out))
 
 abbrev pub μ-loop-at : given.MeasureT-loop-at
 μ-loop-at l = length (l .text) - l .at

@@ -16,5 +16,6 @@ returns-in-rest c =
 pub loop-found-again : need.loop-found-again
 loop-found-again c =
     let r = cases-at-some _ _ (c .in-Some .record) (c .in-Some .is) (c .in-Ok .ensures tt .answer) in
-    next (c .args .input .now) (c .loop-found .at) (string-bytes (c .loop-found .out)) (c .loop-found .inv) (frame (c .in-Some .record)) (r .stands)
-    (string-bytes (c .show-record .last .out)) (c .in-Continue-show-record .ensures tt) (c .in-Some .record .next) (r .next)
+    let m = c .in-Continue-show-item .ensures tt in
+    next (c .args .input .now) (c .loop-found .at) (string-bytes (c .loop-found .out)) (c .loop-found .inv) (frame (c .in-Some .record)) (r .stands) (m .0) (m .1 .0)
+    (string-bytes (c .show-item .last .out)) (m .1 .1) (c .in-Some .record .next) (r .next)

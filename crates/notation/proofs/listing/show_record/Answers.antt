@@ -24,6 +24,4 @@ returns c =
     let told : string-bytes (c .in-Continue-head .head) ≡ begins = c .in-Continue-head .ensures tt .made in
     let a : string-bytes (c .push-str .last .self) ≡ was ++ begins = c .in-Continue-push-str .ensures tt .bytes ∙ ap (λ t. was ++ t) (c .as-str .ensures .value ∙ told) in
     let b : string-bytes (c .loop-b .out) ≡ string-bytes (c .push-str .last .self) ++ joined shown body = c .loop-b .inv ∙ ap (λ t. string-bytes (c .push-str .last .self) ++ joined shown t) (take-all (c .loop-b .b-index) body (omega arith)) in
-    let d : string-bytes (c .push-str-2 .last .self) ≡ string-bytes (c .loop-b .out) ++ (10 ∷ []) = c .in-Continue-push-str-2 .ensures tt .bytes in
-    let e : string-bytes (c .loop-b .out) ≡ was ++ (begins ++ joined shown body) = b ∙ ap (λ t. t ++ joined shown body) a ∙ append-assoc was begins (joined shown body) in
-    d ∙ ap (λ t. t ++ (10 ∷ [])) e ∙ append-assoc was (begins ++ joined shown body) (10 ∷ [])
+    b ∙ ap (λ t. t ++ joined shown body) a ∙ append-assoc was begins (joined shown body)

@@ -1,0 +1,4 @@
+pub mod Takes
+pub mod Errors
+pub mod Lookup
+pub mod Bodies

@@ -1,0 +1,6 @@
+pub mod Turns
+pub mod Numbers
+pub mod Spelling
+pub mod Fits
+pub mod Good
+pub mod Laws
