@@ -23,7 +23,7 @@ use crate::sentence::Sentence;
 use model::principal::Principal;
 use model::privilege::Privilege;
 
-pub fn role_form(body: &[u8], at: usize) -> Result<Sentence, usize>
+pub(crate) fn role_form(body: &[u8], at: usize) -> Result<Sentence, usize>
     ensures { λ r. ⌜ Continues command.Role (now (body .entry)) at r ⌝ }
 {
     let (role, next) = role(body, at)?;
@@ -33,7 +33,7 @@ pub fn role_form(body: &[u8], at: usize) -> Result<Sentence, usize>
     Ok(Sentence::Role { role, level })
 }
 
-pub fn object_form(body: &[u8], at: usize) -> Result<Sentence, usize>
+pub(crate) fn object_form(body: &[u8], at: usize) -> Result<Sentence, usize>
     ensures { λ r. ⌜ Continues command.Object (now (body .entry)) at r ⌝ }
 {
     let (object, next) = object(body, at)?;
@@ -60,14 +60,14 @@ fn pair(body: &[u8], at: usize, word: &[u8]) -> Result<(u8, Principal), usize>
     Ok((lower, upper))
 }
 
-pub fn link_form(body: &[u8], at: usize) -> Result<Sentence, usize>
+pub(crate) fn link_form(body: &[u8], at: usize) -> Result<Sentence, usize>
     ensures { λ r. ⌜ Continues command.Link (now (body .entry)) at r ⌝ }
 {
     let (role, upper) = pair(body, at, b"TO")?;
     Ok(Sentence::Link { role, upper })
 }
 
-pub fn cut_form(body: &[u8], at: usize) -> Result<Sentence, usize>
+pub(crate) fn cut_form(body: &[u8], at: usize) -> Result<Sentence, usize>
     ensures { λ r. ⌜ Continues command.Cut (now (body .entry)) at r ⌝ }
 {
     let (role, upper) = pair(body, at, b"FROM")?;
@@ -138,7 +138,7 @@ fn plain(body: &[u8], at: usize, word: &[u8]) -> Result<(Privilege, u8, Principa
     Ok((privilege, object, principal))
 }
 
-pub fn grant_form(body: &[u8], at: usize) -> Result<Sentence, usize>
+pub(crate) fn grant_form(body: &[u8], at: usize) -> Result<Sentence, usize>
     ensures { λ r. ⌜ Continues command.Grant (now (body .entry)) at r ⌝ }
 {
     let (privilege, object, grantee, option) = granted(body, at)?;
@@ -150,7 +150,7 @@ pub fn grant_form(body: &[u8], at: usize) -> Result<Sentence, usize>
     })
 }
 
-pub fn restrict_form(restriction: Restriction, body: &[u8], at: usize) -> Result<Sentence, usize>
+pub(crate) fn restrict_form(restriction: Restriction, body: &[u8], at: usize) -> Result<Sentence, usize>
     ensures { λ r. ⌜ Continues (command.Restrict restriction) (now (body .entry)) at r ⌝ }
 {
     let (privilege, object, grantee, neutral) = restricted(body, at)?;
@@ -163,7 +163,7 @@ pub fn restrict_form(restriction: Restriction, body: &[u8], at: usize) -> Result
     })
 }
 
-pub fn revoke_form(body: &[u8], at: usize) -> Result<Sentence, usize>
+pub(crate) fn revoke_form(body: &[u8], at: usize) -> Result<Sentence, usize>
     ensures { λ r. ⌜ Continues command.Revoke (now (body .entry)) at r ⌝ }
 {
     let (privilege, object, grantee) = plain(body, at, b"FROM")?;
@@ -174,7 +174,7 @@ pub fn revoke_form(body: &[u8], at: usize) -> Result<Sentence, usize>
     })
 }
 
-pub fn check_form(body: &[u8], at: usize) -> Result<Sentence, usize>
+pub(crate) fn check_form(body: &[u8], at: usize) -> Result<Sentence, usize>
     ensures { λ r. ⌜ Continues command.Check (now (body .entry)) at r ⌝ }
 {
     let (privilege, object, principal) = plain(body, at, b"FOR")?;

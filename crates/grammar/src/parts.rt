@@ -16,7 +16,7 @@ use model::privilege::Privilege;
 use words::token::Token;
 use words::word_at;
 
-pub fn role(body: &[u8], at: usize) -> Result<(u8, usize), usize>
+pub(crate) fn role(body: &[u8], at: usize) -> Result<(u8, usize), usize>
     ensures { λ r. ⌜ Cases r (λ x. (x .0 ≤ 99) × Takes (now (body .entry)) at (x .1) (principal-word (RoleOf (x .0)))) (LacksAt a-role (now (body .entry)) at) ⌝ }
 {
     let Some(token) = word_at(body, at) else {
@@ -38,7 +38,7 @@ pub fn role(body: &[u8], at: usize) -> Result<(u8, usize), usize>
     }
 }
 
-pub fn principal(body: &[u8], at: usize) -> Result<(Principal, usize), usize>
+pub(crate) fn principal(body: &[u8], at: usize) -> Result<(Principal, usize), usize>
     ensures { λ r. ⌜ Cases r (λ x. (index (x .0) ≤ 99) × Takes (now (body .entry)) at (x .1) (principal-word (x .0))) (LacksAt a-principal (now (body .entry)) at) ⌝ }
 {
     let Some(token) = word_at(body, at) else {
@@ -56,7 +56,7 @@ pub fn principal(body: &[u8], at: usize) -> Result<(Principal, usize), usize>
     }
 }
 
-pub fn user(body: &[u8], at: usize) -> Result<(u8, usize), usize>
+pub(crate) fn user(body: &[u8], at: usize) -> Result<(u8, usize), usize>
     ensures { λ r. ⌜ Cases r (λ x. (x .0 ≤ 99) × Takes (now (body .entry)) at (x .1) (principal-word (UserOf (x .0)))) (LacksAt a-user (now (body .entry)) at) ⌝ }
 {
     let Some(token) = word_at(body, at) else {
@@ -78,7 +78,7 @@ pub fn user(body: &[u8], at: usize) -> Result<(u8, usize), usize>
     }
 }
 
-pub fn object(body: &[u8], at: usize) -> Result<(u8, usize), usize>
+pub(crate) fn object(body: &[u8], at: usize) -> Result<(u8, usize), usize>
     ensures { λ r. ⌜ Cases r (λ x. (x .0 ≤ 99) × Takes (now (body .entry)) at (x .1) (object-word (x .0))) (LacksAt an-object (now (body .entry)) at) ⌝ }
 {
     let Some(token) = word_at(body, at) else {
@@ -92,7 +92,7 @@ pub fn object(body: &[u8], at: usize) -> Result<(u8, usize), usize>
     }
 }
 
-pub fn number(body: &[u8], at: usize) -> Result<(u8, usize), usize>
+pub(crate) fn number(body: &[u8], at: usize) -> Result<(u8, usize), usize>
     ensures { λ r. ⌜ Cases r (λ x. (x .0 ≤ 99) × Takes (now (body .entry)) at (x .1) (digits (x .0))) (LacksAt a-number (now (body .entry)) at) ⌝ }
 {
     let Some(token) = word_at(body, at) else {
@@ -122,7 +122,7 @@ fn privilege_of(text: &[u8]) -> Option<Privilege>
     }
 }
 
-pub fn privilege(body: &[u8], at: usize) -> Result<(Privilege, usize), usize>
+pub(crate) fn privilege(body: &[u8], at: usize) -> Result<(Privilege, usize), usize>
     ensures { λ r. ⌜ Cases r (λ x. Takes (now (body .entry)) at (x .1) (privilege-word (x .0))) (LacksAt a-privilege (now (body .entry)) at) ⌝ }
 {
     let Some(token) = word_at(body, at) else {
@@ -153,7 +153,7 @@ fn kind_of(text: &[u8]) -> Option<Kind>
     }
 }
 
-pub fn kind(body: &[u8], at: usize) -> Result<(Kind, usize), usize>
+pub(crate) fn kind(body: &[u8], at: usize) -> Result<(Kind, usize), usize>
     ensures { λ r. ⌜ Cases r (λ x. Takes (now (body .entry)) at (x .1) (kind-word (x .0))) (LacksAt a-kind (now (body .entry)) at) ⌝ }
 {
     let Some(token) = word_at(body, at) else {
@@ -173,7 +173,7 @@ pub fn kind(body: &[u8], at: usize) -> Result<(Kind, usize), usize>
 }
 
 // The word itself.
-pub fn keyword(body: &[u8], at: usize, word: &[u8]) -> Result<usize, usize>
+pub(crate) fn keyword(body: &[u8], at: usize, word: &[u8]) -> Result<usize, usize>
     ensures { λ r. ⌜ Cases r (λ n. Takes (now (body .entry)) at n (now (word .entry))) (LacksAt (a-word (now (word .entry))) (now (body .entry)) at) ⌝ }
 {
     let Some(token) = word_at(body, at) else {
@@ -188,7 +188,7 @@ pub fn keyword(body: &[u8], at: usize, word: &[u8]) -> Result<usize, usize>
 }
 
 // No word is left.
-pub fn end(body: &[u8], at: usize) -> Result<(), usize>
+pub(crate) fn end(body: &[u8], at: usize) -> Result<(), usize>
     ensures { λ r. ⌜ Cases r (λ _. words-from (now (body .entry)) at ≡ []) (λ p. Strays [] (words-from (now (body .entry)) at) (length (now (body .entry))) at p) ⌝ }
 {
     match word_at(body, at) {

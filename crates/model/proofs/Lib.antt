@@ -1,2 +1,5 @@
 pub mod Joins
 pub mod Allowing
+pub mod LinkCounts
+pub mod Chains
+pub mod SoundGraphs

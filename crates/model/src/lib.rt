@@ -1,5 +1,6 @@
 // The words of the model: who acts, on what, which privileges there are, and in which states.
 pub mod cell;
+pub mod graph;
 pub mod kind;
 pub mod object;
 pub mod principal;

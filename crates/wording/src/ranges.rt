@@ -62,7 +62,7 @@ fn step(body: &[u8], at: usize) -> Result<Option<usize>, usize>
 }
 
 // That no number is too large, or the place of the first word whose number is.
-pub fn ranges(body: &[u8]) -> Result<(), usize>
+pub(crate) fn ranges(body: &[u8]) -> Result<(), usize>
     ensures { λ r. ⌜ Cases r (λ _. Every Fine (words (now (body .entry)))) (Exceeds (now (body .entry))) ⌝ }
 {
     let mut at = 0;

@@ -1,0 +1,4 @@
+pub mod Levels
+pub mod Rows
+pub mod Records
+pub mod Meanings
