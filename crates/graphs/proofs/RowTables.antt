@@ -13,7 +13,8 @@ use Rattle.std.proofs.shelf.Tests.{cases-bool, and-parts, and-from}
 use Rattle.model.specs.declared.principal.Principal.{Principal}
 use Rattle.model.specs.declared.principal.Principal.the-variants.{User, Role}
 use Rattle.model.specs.Principals.{in-range}
-use Rattle.model.specs.Graphs.{same-principal, same-link}
+use Rattle.model.specs.Graphs.{same-link}
+use Rattle.model.specs.Places.{same-principal}
 use Rattle.model.proofs.Chains.{same-true, same-eq}
 use Rattle.graphs.specs.Rows.{bit-at, row-of, in-rows}
 

@@ -10,7 +10,7 @@ use lib.Bits.{bitOr, bitXor, shifted-even}
 use borrow.Author.Tests.{eq-eqb, ne-eqb, eqb-true}
 use Rattle.std.proofs.shelf.Bits.{pow-pos, pow-add, shl-shr, or-shr, or-mod, xor-shr, xor-mod, div-below, pow-below, mod-below}
 use Rattle.std.proofs.shelf.Tests.{cases-order}
-use Rattle.model.specs.LinkCount.{one-if}
+use Rattle.model.specs.Folds.{one-if}
 use Rattle.graphs.specs.Rows.{bit-at}
 
 -- bit j of 2 ^ k

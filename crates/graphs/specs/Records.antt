@@ -7,7 +7,7 @@ use lib.Dec.{eqb}
 use lib.ListN.{getD}
 use Rattle.model.specs.declared.principal.Principal.{Principal}
 use Rattle.model.specs.declared.principal.Principal.the-variants.{User}
-use Rattle.model.specs.Graphs.{same-principal}
+use Rattle.model.specs.Places.{same-principal}
 use Rattle.graphs.specs.declared.link.Link.{Link}
 
 abbrev pub link : Principal → ℕ → Link

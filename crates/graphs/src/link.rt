@@ -1,7 +1,7 @@
 // Links between principals and roles.
 ghost use mathlib.Core.Path.{_≡_};
 ghost use lib.Dec.{ltb};
-ghost use Rattle.model.specs.Graphs.{same-principal};
+ghost use Rattle.model.specs.Places.{same-principal};
 ghost use Rattle.graphs.specs.Records.{link, is-link};
 use model::principal::Principal;
 use model::principal::PrincipalPartialEq;

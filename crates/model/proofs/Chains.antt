@@ -10,7 +10,8 @@ use Rattle.std.specs.declared.option.Option.{Option}
 use Rattle.std.specs.declared.option.Option.the-variants.{Some, None}
 use Rattle.model.specs.declared.principal.Principal.{Principal}
 use Rattle.model.specs.declared.principal.Principal.the-variants.{User, Role}
-use Rattle.model.specs.Graphs.{RoleGraph, same-principal, smaller, falls, level-of, Chain, stay, via, Reaches, Above}
+use Rattle.model.specs.Places.{same-principal}
+use Rattle.model.specs.Graphs.{RoleGraph, smaller, falls, level-of, Chain, stay, via, Reaches, Above}
 
 pub same-true : (a b : Principal) → same-principal a b ≡ true → a ≡ b
 same-true (User m) (User n) e = ap User (eqb-true m n e)

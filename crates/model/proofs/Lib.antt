@@ -3,3 +3,8 @@ pub mod Allowing
 pub mod LinkCounts
 pub mod Chains
 pub mod SoundGraphs
+pub mod Counting
+pub mod JoinFolds
+pub mod Numbering
+pub mod Outside
+pub mod Puts

@@ -10,8 +10,10 @@ use Rattle.std.proofs.shelf.Tests.{cases-eq, and-parts, and-from}
 use Rattle.model.specs.declared.principal.Principal.{Principal}
 use Rattle.model.specs.declared.principal.Principal.the-variants.{User, Role}
 use Rattle.model.specs.Principals.{in-range}
-use Rattle.model.specs.LinkCount.{one-if, sum-below, links-from, link-count}
-use Rattle.model.specs.Graphs.{same-principal, same-link}
+use Rattle.model.specs.Folds.{one-if}
+use Rattle.model.specs.LinkCount.{sum-below, links-from, link-count}
+use Rattle.model.specs.Graphs.{same-link}
+use Rattle.model.specs.Places.{same-principal}
 use Rattle.model.proofs.Chains.{same-true, same-self}
 
 -- f and g agree below n

@@ -9,6 +9,7 @@ use Rattle.model.specs.declared.principal.Principal.{Principal}
 use Rattle.model.specs.declared.principal.Principal.the-variants.{User, Role}
 use Rattle.model.specs.Principals.{in-range, role-level-in-range, user-level}
 use Rattle.model.specs.LinkCount.{link-count}
+use Rattle.model.specs.Places.{same-principal}
 
 pub record RoleGraph : Type 0 where
   -- the level of each role, if it has one
@@ -19,12 +20,6 @@ pub record RoleGraph : Type 0 where
 -- no levels and no links
 abbrev pub new-graph : RoleGraph
 new-graph = record { level = λ _. None; linked = λ _ _. false }
-
-abbrev pub same-principal : Principal → Principal → Bool
-same-principal (User m) (User n) = eqb m n
-same-principal (User m) (Role n) = false
-same-principal (Role m) (User n) = false
-same-principal (Role m) (Role n) = eqb m n
 
 -- the level of a principal that exists: a user in range, or a role with a level
 abbrev pub level-of : (ℕ → Option ℕ) → Principal → Option ℕ

@@ -5,3 +5,6 @@ pub mod Joining
 pub mod Allowed
 pub mod LinkCount
 pub mod Graphs
+pub mod Folds
+pub mod Places
+pub mod Stores

@@ -1,12 +1,9 @@
 -- How many links stand.
-use mathlib.Core.Bool.{Bool, true, false}
+use mathlib.Core.Bool.{Bool}
 use Prim.Native.Nat.{ℕ, zero, suc, _+_}
+use Rattle.model.specs.Folds.{one-if}
 use Rattle.model.specs.declared.principal.Principal.{Principal}
 use Rattle.model.specs.declared.principal.Principal.the-variants.{User, Role}
-
-abbrev pub one-if : Bool → ℕ
-one-if true = 1
-one-if false = 0
 
 -- f 0 + .. + f (n - 1). Shut, so that a sum over 64 numbers is not written out.
 unfoldable pub sum-below : (ℕ → ℕ) → ℕ → ℕ

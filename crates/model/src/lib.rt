@@ -3,6 +3,8 @@ pub mod cell;
 pub mod graph;
 pub mod kind;
 pub mod object;
+pub mod place;
 pub mod principal;
 pub mod privilege;
 pub mod scale;
+pub mod store;

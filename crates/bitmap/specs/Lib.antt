@@ -1,0 +1,4 @@
+pub mod Layout
+pub mod Items
+pub mod Tables
+pub mod Objects
