@@ -52,7 +52,7 @@ impl<S: Scale> CellRecord<S> {
     }
 }
 
-pub fn record_at<S: Scale>(records: &[CellRecord<S>], i: usize) -> CellRecord<S>
+pub(crate) fn record_at<S: Scale>(records: &[CellRecord<S>], i: usize) -> CellRecord<S>
     requires { ⌜ i < length (now records) ⌝ }
     ensures place { λ r. ⌜ r .place ≡ place-at (now (records .entry)) i ⌝ }
     ensures cell { λ r. ⌜ cell-of-record (S·Scale .states) r ≡ cell-at (S·Scale .states) (now (records .entry)) i ⌝ }
@@ -77,7 +77,7 @@ fn is_for_grantee(place: Place, object: u8, privilege: Privilege, grantee: Princ
 }
 
 // The record of a place, if there is one.
-pub fn find<S: Scale>(records: &[CellRecord<S>], n: usize, place: Place) -> Option<usize>
+pub(crate) fn find<S: Scale>(records: &[CellRecord<S>], n: usize, place: Place) -> Option<usize>
     requires { ⌜ n ≤ length (now records) ⌝ }
     ensures { λ r. ⌜ Cases r ((i : ℕ) → i < n → same-place (place-at (now (records .entry)) i) place ≡ false) (λ i. (i < n) × (same-place (place-at (now (records .entry)) i) place ≡ true)) ⌝ }
 {
@@ -89,7 +89,7 @@ pub fn find<S: Scale>(records: &[CellRecord<S>], n: usize, place: Place) -> Opti
     None
 }
 
-pub fn is_pair_used<S: Scale>(
+pub(crate) fn is_pair_used<S: Scale>(
     records: &[CellRecord<S>],
     n: usize,
     object: u8,
@@ -118,7 +118,7 @@ fn is_first<S: Scale>(records: &[CellRecord<S>], i: usize, object: u8) -> bool
 }
 
 // How many pairs there are at an object.
-pub fn count_pairs<S: Scale>(records: &[CellRecord<S>], n: usize, object: u8) -> usize
+pub(crate) fn count_pairs<S: Scale>(records: &[CellRecord<S>], n: usize, object: u8) -> usize
     requires { ⌜ n ≤ length (now records) ⌝ }
     ensures { λ r. ⌜ r ≡ count-below n (first-at (place-at (now (records .entry))) object) ⌝ }
 {
@@ -146,7 +146,7 @@ fn option_of<S: Scale>(
     }
 }
 
-pub fn has_option<S: Scale>(
+pub(crate) fn has_option<S: Scale>(
     records: &[CellRecord<S>],
     n: usize,
     object: u8,
@@ -192,7 +192,7 @@ fn joined<S: Scale>(next: S, before: S) -> S
     next.join(before)
 }
 
-pub fn strongest<S: Scale>(
+pub(crate) fn strongest<S: Scale>(
     records: &[CellRecord<S>],
     n: usize,
     object: u8,
@@ -212,7 +212,7 @@ pub fn strongest<S: Scale>(
     strongest
 }
 
-pub fn is_unassign<S: Scale>(state: S) -> bool
+pub(crate) fn is_unassign<S: Scale>(state: S) -> bool
     ensures { λ r. ⌜ r ≡ sameOf (S·Scale .states) state (S·Scale .states .unassign) ⌝ }
 {
     state.same(S::unassign())

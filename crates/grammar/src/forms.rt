@@ -150,7 +150,11 @@ pub(crate) fn grant_form(body: &[u8], at: usize) -> Result<Sentence, usize>
     })
 }
 
-pub(crate) fn restrict_form(restriction: Restriction, body: &[u8], at: usize) -> Result<Sentence, usize>
+pub(crate) fn restrict_form(
+    restriction: Restriction,
+    body: &[u8],
+    at: usize,
+) -> Result<Sentence, usize>
     ensures { λ r. ⌜ Continues (command.Restrict restriction) (now (body .entry)) at r ⌝ }
 {
     let (privilege, object, grantee, neutral) = restricted(body, at)?;

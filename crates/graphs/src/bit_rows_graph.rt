@@ -20,8 +20,8 @@ use crate::levels::level;
 use crate::levels::no_levels;
 use crate::levels::takes_level;
 use crate::link::has_room;
-use crate::link::same;
 use model::graph::Graph;
+use model::place::same_principal;
 use model::principal::Principal;
 
 fn no_links() -> [u64; 128]
@@ -176,7 +176,7 @@ pub impl Graph for BitRows as BitRowsGraph {
         if !to.is_in_range() {
             return false;
         }
-        if same(from, to) {
+        if same_principal(from, to) {
             return true;
         }
         match to {

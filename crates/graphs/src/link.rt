@@ -1,10 +1,9 @@
 // Links between principals and roles.
 ghost use mathlib.Core.Path.{_≡_};
 ghost use lib.Dec.{ltb};
-ghost use Rattle.model.specs.Places.{same-principal};
 ghost use Rattle.graphs.specs.Records.{link, is-link};
+use model::place::same_principal;
 use model::principal::Principal;
-use model::principal::PrincipalPartialEq;
 
 // The most links that a graph holds.
 pub const LINKS: usize = 256;
@@ -30,14 +29,8 @@ pub(crate) fn has_room(count: usize) -> bool
     count < LINKS
 }
 
-pub(crate) fn same(a: Principal, b: Principal) -> bool
-    ensures { λ r. ⌜ r ≡ same-principal a b ⌝ }
-{
-    a == b
-}
-
 pub(crate) fn is_link(link: Link, upper: Principal, lower: u8) -> bool
     ensures { λ r. ⌜ r ≡ is-link link upper lower ⌝ }
 {
-    same(link.upper, upper) & (link.lower == lower)
+    same_principal(link.upper, upper) & (link.lower == lower)
 }

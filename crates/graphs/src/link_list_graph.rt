@@ -19,9 +19,9 @@ use crate::link::LINKS;
 use crate::link::Link;
 use crate::link::has_room;
 use crate::link::is_link;
-use crate::link::same;
 use crate::link_list::LinkList;
 use model::graph::Graph;
+use model::place::same_principal;
 use model::principal::Principal;
 
 impl<'a> LinkList<'a> {
@@ -101,13 +101,13 @@ impl<'a> LinkList<'a> {
         ensures itself { λ r. ⌜ (from ≡ to → r ≡ true) ⌝ }
         ensures complete { λ r. ⌜ ((k : ℕ) → k < left → at-place (now (now (self .entry) .links)) k .upper ≡ from → Chain (list-graph (now (self .entry)) .linked) (Role (at-place (now (now (self .entry) .links)) k .lower)) to → r ≡ true) ⌝ }
     {
-        if same(from, to) {
+        if same_principal(from, to) {
             return true;
         }
         if left == 0 {
             return false;
         }
-        if same(self.links[left - 1].upper, from) && self.follow_link(left - 1, to) {
+        if same_principal(self.links[left - 1].upper, from) && self.follow_link(left - 1, to) {
             return true;
         }
         self.follow(from, to, left - 1)
