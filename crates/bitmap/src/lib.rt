@@ -1,4 +1,6 @@
 // The bitmap table: the assignment store of the five-state scale, with no lent memory.
+#![tactic(auto)]
+
 mod code;
 pub mod item;
 mod object_items;

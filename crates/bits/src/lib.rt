@@ -1,4 +1,6 @@
 // One bit of a 32-bit word, read and written.
+#![tactic(auto)]
+
 ghost use Rattle.std.specs.Prelude.{◌≡◌, ℕ, ◌/◌, ◌^◌, ◌<◌, ◌≤◌, if◌then◌else◌, ◌≢◌};
 ghost use Rattle.bits.specs.Bit.{bit};
 

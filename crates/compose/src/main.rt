@@ -1,4 +1,6 @@
 // Writes the records that the lines of standard input state; at a line that states none, nothing.
+#![tactic(auto)]
+
 use anyhow::anyhow;
 use notation::bodies::Bodies;
 use notation::composing::{ComposeFault, compose};

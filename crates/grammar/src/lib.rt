@@ -1,4 +1,6 @@
 // The sentences: what a body says, whatever its numbers.
+#![tactic(auto)]
+
 ghost use Rattle.std.specs.Prelude.{◌≡◌, MatchOption, MatchResult, ◌≢◌};
 ghost use Rattle.grammar.specs.Sentences.{first, written, NoSentence, Spells};
 ghost use Rattle.grammar.specs.Steps.{Takes};

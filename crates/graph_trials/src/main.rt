@@ -1,5 +1,7 @@
 // Runs the calls of standard input, a line each, through both graphs side by side, and prints
 // what both tell. Then the same calls through link lists that are lent too little.
+#![tactic(auto)]
+
 mod call;
 mod side_by_side;
 mod table;

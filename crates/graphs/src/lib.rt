@@ -1,4 +1,6 @@
 // Two role graphs: rows of bits, and a list of links in lent memory.
+#![tactic(auto)]
+
 mod bit_rows;
 mod bit_rows_graph;
 mod bits;

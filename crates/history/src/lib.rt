@@ -1,4 +1,6 @@
 // What every list of records must be answered, and the laws that follow.
+#![tactic(auto)]
+
 ghost use Rattle.std.specs.Prelude.{◌≡◌};
 ghost use Rattle.history.specs.Laws.{Laws};
 

@@ -1,4 +1,6 @@
 // Prints the records that standard input holds, a line each, and the refusal at which they end.
+#![tactic(auto)]
+
 use notation::listing::listing;
 use std::io::{Read, Write};
 

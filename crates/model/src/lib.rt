@@ -1,4 +1,6 @@
 // The words of the model: who acts, on what, which privileges there are, and in which states.
+#![tactic(auto)]
+
 pub mod cell;
 pub mod graph;
 pub mod kind;

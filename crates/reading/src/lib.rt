@@ -1,4 +1,6 @@
 // Records in an input of bytes: reading one at an offset, and writing one.
+#![tactic(auto)]
+
 ghost use Rattle.std.specs.Prelude.{◌≡◌, ◌+◌, ◌≤◌, length, MatchOption, MatchResult};
 ghost use Rattle.reading.specs.Cut.{ReadingLaws};
 ghost use Rattle.reading.specs.Records.{Reads, Refused};

@@ -1,4 +1,6 @@
 // Tells of each line of the standard input what it says as a body: its sentence, spelled again, or the refusal.
+#![tactic(auto)]
+
 use spelling::spell;
 use std::io;
 use std::io::{Read, Write};

@@ -1,4 +1,6 @@
 // Writing a sentence: the body that spells it.
+#![tactic(auto)]
+
 ghost use Rattle.std.specs.Prelude.{◌≡◌, [], ◌∷◌, ◌++◌, IfOk, OnOk};
 ghost use Rattle.words.specs.Words.{digits as digits_of, principal_word, join};
 ghost use Rattle.grammar.specs.Sentences.{privilege_word, kind_word, right_words, spell as spell_of, first as first_word};

@@ -1,4 +1,6 @@
 // Two stores side by side: under the same writes they tell the same.
+#![tactic(auto)]
+
 ghost use Rattle.std.specs.Prelude.{◌≡◌, true};
 
 use model::cell::{Cell, Orientation};

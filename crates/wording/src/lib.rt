@@ -1,4 +1,6 @@
 // What the body of a record says, or where it stops making sense.
+#![tactic(auto)]
+
 ghost use Rattle.wording.specs.Answers.{AnswersAt, InRange, Parsed};
 
 pub mod fault;

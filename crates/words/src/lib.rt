@@ -1,4 +1,6 @@
 // The words of a body, told apart.
+#![tactic(auto)]
+
 ghost use Rattle.std.specs.Prelude.{◌≡◌, ℕ, ◌<◌, ◌≤◌, [], length, drop, MatchOption, ◌≢◌, slice_index};
 ghost use Rattle.words.specs.Words.{digits, words_from, Numeral, Principal_word, Object_word, Shows, Tells, WordAt};
 
