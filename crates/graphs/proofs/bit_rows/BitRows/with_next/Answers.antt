@@ -9,7 +9,7 @@ loop-role-init c j l = some_none _ _
 pub loop-role-preserved : goal.loop-role-preserved
 loop-role-preserved c j l =
     let s = c.args.self.now in
-    union_more (leads s.levels s.rows c.args.set c.args.level j) c.loop-role.next c.row-on-level-next.result c.args.set c.loop-role.role j (c.row-on-level-next.ensures j l) (c.loop-role.invariant j l)
+    union_more (leads s.levels s.rows c.args.set c.args.level j) c.loop-role.next c.row_on_level-next.result c.args.set c.loop-role.role j (c.row_on_level-next.ensures j l) (c.loop-role.invariant j l)
 
 pub returns : goal.returns
 returns c j l =

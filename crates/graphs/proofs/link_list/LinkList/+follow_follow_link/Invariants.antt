@@ -8,5 +8,5 @@ use Rattle.graphs.proofs.link_list.LinkList.+follow_follow_link.Given as goal
 abbrev pub decreases-follow : goal.decreases-follow
 decreases-follow l = unwrap_or (level_of (level_in l.self.now.levels) l.from) 0 * 258 + l.left
 
-abbrev pub decreases-follow-link : goal.decreases-follow-link
-decreases-follow-link l = unwrap_or (level_in l.self.now.levels (at_place l.self.now.links.now l.place).lower) 0 * 258 + 257
+abbrev pub decreases-follow_link : goal.decreases-follow_link
+decreases-follow_link l = unwrap_or (level_in l.self.now.levels (at_place l.self.now.links.now l.place).lower) 0 * 258 + 257

@@ -14,8 +14,8 @@ bounds-self-end c =
     let t = link_taken (leb 256 (length xs)) (graph_of s.levels (held xs s.len)) c.args.upper c.args.lower g c.requires in
     omega (arith, leb-true _ _ t.memory, t.few)
 
-pub invariant-of-self : goal.invariant-of-self
-invariant-of-self c =
+pub invariant_of-self : goal.invariant_of-self
+invariant_of-self c =
     let s = c.args.self.now in
     let xs = s.links.now in
     let h = held xs s.len in
@@ -25,7 +25,7 @@ invariant-of-self c =
     let t = link_taken (leb 256 (length xs)) (graph_of s.levels h) u r g c.requires in
     let l : s.len < length xs = omega (arith, leb-true _ _ t.memory, t.few) in
     let k = link_kept s.levels h s.len g s.counted (leb 256 (length xs)) u r (held (set xs s.len c.new.result) (s.len + 1)) c.requires (pushed xs s.len u r c.new.result l c.new.ensures) in
-    (s.sized, (simp length-set (omega arith), (s.low, (k.falling, (k.counted, (k.few, (pushed_distinct xs s.len u r c.new.result l c.new.ensures s.distinct t.absent, tt)))))))
+    record { sized = s.sized; fits = simp length-set (omega arith); low = s.low; falling = k.falling; counted = k.counted; few = k.few; distinct = pushed_distinct xs s.len u r c.new.result l c.new.ensures s.distinct t.absent }
 
 pub returns : goal.returns
 returns c =

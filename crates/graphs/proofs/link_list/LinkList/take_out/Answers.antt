@@ -6,8 +6,8 @@ use Rattle.graphs.proofs.LevelTables.{cut_kept}
 use Rattle.graphs.proofs.RecordLists.{struck, strike}
 use Rattle.graphs.proofs.link_list.LinkList.take_out.Goals as goal
 
-pub invariant-of-self : goal.invariant-of-self
-invariant-of-self c =
+pub invariant_of-self : goal.invariant_of-self
+invariant_of-self c =
     let s = c.args.self.now in
     let xs = s.links.now in
     let h = held xs s.len in
@@ -15,7 +15,7 @@ invariant-of-self c =
     let g = kept_sound s.levels h s.len s.sized s.low s.falling s.counted s.few in
     let t = strike xs i s.len c.last-last.result c.last-last.ensures c.requires s.fits s.distinct in
     let k = cut_kept s.levels h s.len g s.counted (at_place xs i).upper (at_place xs i).lower (held (struck xs i c.last-last.result) c.last-last.result) t.stood t.after in
-    (s.sized, (simp length-set (omega arith), (s.low, (k.falling, (c.last-last.ensures ∙ k.counted, (omega (arith, k.few, c.last-last.ensures), (t.distinct, tt)))))))
+    record { sized = s.sized; fits = simp length-set (omega arith); low = s.low; falling = k.falling; counted = c.last-last.ensures ∙ k.counted; few = omega (arith, k.few, c.last-last.ensures); distinct = t.distinct }
 
 pub returns : goal.returns
 returns c =

@@ -5,6 +5,6 @@ use Rattle.graphs.proofs.link_list_graph.LinkListGraph.reaches.Goals as goal
 pub returns : goal.returns
 returns c =
     let s = c.args.self.now in (
-      (λ e. record { from = sym c.if-not-is-in-range.ensures; to = sym c.if-not-is-in-range-2.ensures; chain = c.follow.ensures.sound e }),
+      (λ e. record { from = sym c.if-not-is_in_range.ensures; to = sym c.if-not-is_in_range-2.ensures; chain = c.follow.ensures.sound e }),
       (λ h. follows_first s.links.now s.len c.args.from c.args.to c.follow.result c.follow.ensures.itself c.follow.ensures.complete h.chain),
     )
