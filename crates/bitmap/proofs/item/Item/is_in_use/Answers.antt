@@ -1,4 +1,4 @@
-use Rattle.std.proofs.Common.{◌≡◌, Bool, true, false, sym, ap, ◌∙◌, arith, below_more}
+use Rattle.std.proofs.Common.{sym, ap, ◌∙◌, arith, below_more}
 use Rattle.scales.specs.declared.five.FiveState.{FiveState}
 use Rattle.scales.specs.Five.{five}
 use Rattle.model.specs.Joining.{joining}

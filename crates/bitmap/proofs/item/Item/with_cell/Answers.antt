@@ -1,4 +1,4 @@
-use Rattle.std.proofs.Common.{◌≡◌, ℕ, cond, refl, subst}
+use Rattle.std.proofs.Common.{ℕ, cond, refl, subst}
 use Rattle.bitmap.specs.Layout.{CodeSet, encode}
 use Rattle.bitmap.proofs.ItemLaws.{set_valid, set_here, set_others}
 use Rattle.bitmap.proofs.item.Item.with_cell.Goals as goal

@@ -1,4 +1,4 @@
-use Rattle.std.proofs.Common.{◌≡◌, sym, ap, ◌∙◌, arith}
+use Rattle.std.proofs.Common.{◌≡◌, sym, ap, arith}
 use Rattle.scales.specs.Five.{five}
 use Rattle.model.specs.Joining.{joining}
 use Rattle.model.specs.Folds.{one_if}

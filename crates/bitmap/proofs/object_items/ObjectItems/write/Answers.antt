@@ -1,10 +1,8 @@
-use Rattle.std.proofs.Common.{◌≡◌, Bool, true, false, not, sym, ap, ◌∙◌, arith}
+use Rattle.std.proofs.Common.{sym, ◌∙◌}
 use Rattle.std.proofs.lemmas.Bool.{not-true, not-false}
 use Rattle.scales.specs.Five.{five}
-use Rattle.model.specs.Joining.{joining}
-use Rattle.model.specs.Allowed.{Allowed}
 use Rattle.model.proofs.Allowing.{allowed_decides}
-use Rattle.bitmap.specs.Items.{Kept, pair_of}
+use Rattle.bitmap.specs.Items.{pair_of}
 use Rattle.bitmap.specs.Tables.{items_of}
 use Rattle.bitmap.proofs.RowLaws.{five_lawful, rows_kept, items_allowed}
 use Rattle.bitmap.proofs.Writing.{pair_below, written_own, written_free, written_nothing, written_full}

@@ -1,4 +1,4 @@
-use Rattle.std.proofs.Common.{◌≡◌, List, sym, ap, ◌∙◌, arith, rules}
+use Rattle.std.proofs.Common.{List, sym, ap, ◌∙◌, rules}
 use Rattle.std.proofs.lemmas.Bool.{ltb-true}
 use Rattle.scales.specs.Five.{five}
 use Rattle.model.specs.Joining.{joining}

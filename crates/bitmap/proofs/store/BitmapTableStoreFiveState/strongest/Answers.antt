@@ -2,7 +2,6 @@ use Rattle.std.proofs.Common.{ℕ, List, sym, ap, ◌∙◌, rules}
 use Rattle.std.proofs.lemmas.Bool.{and_parts, ltb-true}
 use Rattle.scales.specs.Five.{five}
 use Rattle.model.specs.Principals.{in_range, object_in_range}
-use Rattle.model.specs.Privileges.{bit}
 use Rattle.model.specs.Joining.{joining}
 use Rattle.model.specs.Folds.{join_below}
 use Rattle.model.specs.Places.{number}
