@@ -22,7 +22,7 @@ rewrite-requires g c =
     record {
       inside = inside;
       kept = subst (λ (x : CellRecord g.row.S.Denot). Kept t.unassign (set t.records.now c.args.i x) t.len) (sym e)
-          (replace_kept s law t.unassign t.records.now t.len kept c.args.i r inside c.requires.assigned c.requires.counts c.requires.own_val);
+          (replace_kept s law t.unassign t.records.now t.len kept c.args.i r inside c.requires.assigned c.requires.counts c.requires.own);
     }
 
 pub returns : goal.returns
@@ -37,7 +37,7 @@ returns g c =
     let e = c.new-slot.ensures in
     record {
       cells = cells_to s (c.rewrite.ensures.records ∙ ap (set t.records.now c.args.i) e) c.rewrite.ensures.count
-          ∙ replace_cells s law t.unassign t.records.now t.len kept c.args.i r inside c.requires.assigned c.requires.counts c.requires.own_val
+          ∙ replace_cells s law t.unassign t.records.now t.len kept c.args.i r inside c.requires.assigned c.requires.counts c.requires.own
           ∙ ap (put (list_cells s t.records.now t.len) p) (read_back s law p c.args.cell.now c.requires.allowed);
       memory = ap length c.rewrite.ensures.records ∙ simp length-set;
       same = c.rewrite.ensures.same;

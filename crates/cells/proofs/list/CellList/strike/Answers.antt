@@ -27,7 +27,7 @@ returns g c =
     let inside : c.args.i < length t.records.now = omega (arith, c.requires.counts, t.within) in
     record {
       cells = cells_to s c.rewrite.ensures.records c.rewrite.ensures.count
-          ∙ strike_cells s g.met.S.Scale.lawful t.unassign t.records.now t.len kept c.args.i c.slot-slot.result inside c.requires.counts c.slot-slot.ensures.place c.slot-slot.ensures.cell c.args.place c.requires.own_val;
+          ∙ strike_cells s g.met.S.Scale.lawful t.unassign t.records.now t.len kept c.args.i c.slot-slot.result inside c.requires.counts c.slot-slot.ensures.place c.slot-slot.ensures.cell c.args.place c.requires.own;
       memory = ap length c.rewrite.ensures.records ∙ simp length-set;
       same = c.rewrite.ensures.same;
     }
