@@ -1,4 +1,4 @@
-use Rattle.std.proofs.Common.{◌≡◌, sym, ap, ◌∙◌, arith}
+use Rattle.std.proofs.Common.{◌≡◌, sym, ap, arith}
 use Rattle.model.specs.Folds.{one_if}
 use Rattle.model.proofs.Counting.{count_more, count_nothing}
 use Rattle.cells.specs.Kept.{place_at, first_at}

@@ -1,11 +1,11 @@
-use Rattle.std.proofs.Common.{◌≡◌, ℕ, Bool, true, false, ◌||◌, sym, ap, ◌∙◌}
+use Rattle.std.proofs.Common.{◌≡◌, ℕ, Bool, ◌||◌, sym, ap, ◌∙◌}
 use Rattle.std.proofs.lemmas.Bool.{or_left}
 use Rattle.model.specs.Folds.{any_below}
 use Rattle.model.specs.declared.cell.Cell.{Cell}
 use Rattle.model.specs.declared.place.Place.{Place}
 use Rattle.model.proofs.Counting.{any_more, any_nothing}
 use Rattle.cells.specs.Kept.{place_at}
-use Rattle.cells.specs.Listed.{cell_of_record, cell_at, option_by}
+use Rattle.cells.specs.Listed.{cell_at, option_by}
 use Rattle.cells.proofs.reads.has_option.Goals as goal
 use Rattle.cells.proofs.reads.has_option.Goals.{then-option_of, else-option_of}
 

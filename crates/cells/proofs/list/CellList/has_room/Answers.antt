@@ -1,4 +1,4 @@
-use Rattle.std.proofs.Common.{◌≡◌, ℕ, Bool, ◌||◌, ltb, sym, ap, ◌∙◌}
+use Rattle.std.proofs.Common.{ℕ, Bool, ◌||◌, ltb, sym, ap, ◌∙◌}
 use Rattle.cells.specs.Kept.{place_at, used_in}
 use Rattle.cells.proofs.PairCounts.{pairs_counted}
 use Rattle.cells.proofs.list.CellList.has_room.Goals as goal

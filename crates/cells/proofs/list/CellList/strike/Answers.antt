@@ -1,11 +1,5 @@
-use Rattle.std.proofs.Common.{◌≡◌, ℕ, ◌+◌, ◌<◌, ◌≤◌, List, length, set, sym, refl, ap, ◌∙◌, arith, length-set}
-use Rattle.model.specs.declared.cell.Cell.{Cell}
-use Rattle.model.specs.Stores.{put}
-use Rattle.model.specs.Allowed.{unassigned}
-use Rattle.cells.specs.declared.record.CellRecord.{CellRecord}
-use Rattle.cells.specs.Kept.{Kept, place_at}
-use Rattle.cells.specs.Listed.{list_cells, record_of, cell_of_record}
-use Rattle.cells.proofs.Records.{read_back}
+use Rattle.std.proofs.Common.{◌<◌, length, ap, ◌∙◌, arith, length-set}
+use Rattle.cells.specs.Kept.{Kept}
 use Rattle.cells.proofs.Changes.{strike_kept, strike_cells, cells_to}
 use Rattle.cells.proofs.list.CellList.strike.Goals as goal
 

@@ -1,4 +1,4 @@
-use Rattle.std.proofs.Common.{◌≡◌, true, false, sym, ap, ◌∙◌}
+use Rattle.std.proofs.Common.{◌≡◌, true, false, sym, ◌∙◌}
 use Rattle.model.specs.States.{same}
 use Rattle.model.specs.Allowed.{is_allowed}
 use Rattle.model.specs.Places.{place_in_range}
