@@ -1,8 +1,8 @@
 -- What the items of one object hold for a pair, and what one item that is set changes.
-use Rattle.std.proofs.Common.{◌≡◌, ℕ, zero, suc, ◌+◌, ◌*◌, ◌<◌, ◌≤◌, Bool, true, false, cond, not, ◌&&◌, ◌||◌, eqb, ltb, ◌⊎◌, sym, refl, ap, ◌∙◌, subst, inl, inr, ⊎_elim, arith}
-use Rattle.std.proofs.lemmas.Bool.{cases_eq, cases_Bool, eqb-true, eq-eqb, ne_eqb, and_parts, and_left, and_right, and_from, both_ways, cond-true, cond-false, not-true, not_from_true, not_from_false}
+use Rattle.std.proofs.Common.{◌≡◌, ℕ, zero, suc, ◌<◌, Bool, true, false, cond, ◌&&◌, ◌||◌, eqb, ◌⊎◌, sym, refl, ap, ◌∙◌, subst, inl, inr, ⊎_elim, arith}
+use Rattle.std.proofs.lemmas.Bool.{cases_eq, cases_Bool, eqb-true, eq-eqb, ne_eqb, and_parts, and_left, and_right, and_from, both_ways, cond-true, cond-false, not_from_false}
 use Rattle.model.specs.States.{States, Lawful}
-use Rattle.model.specs.Joining.{Joining, joining, JoinLaws}
+use Rattle.model.specs.Joining.{joining, JoinLaws}
 use Rattle.model.specs.Allowed.{Allowed, unassigned}
 use Rattle.model.specs.Folds.{any_below}
 use Rattle.model.specs.Stores.{assigned}

@@ -1,5 +1,5 @@
 -- Sixteen rows as items, and one of them set.
-use Rattle.std.proofs.Common.{◌≡◌, ℕ, ◌+◌, ◌*◌, ◌%◌, ◌^◌, ◌<◌, ◌≤◌, Bool, true, false, cond, eqb, ltb, ◌⊎◌, List, [], ◌∷◌, length, get_or, set, sym, refl, ap, ◌∙◌, subst, ⊎_elim, arith, get_or-set_other, get_or-set_same, rules}
+use Rattle.std.proofs.Common.{◌≡◌, ℕ, ◌+◌, ◌%◌, ◌^◌, ◌<◌, Bool, true, false, eqb, ltb, List, length, set, sym, refl, ap, ◌∙◌, subst, ⊎_elim, arith, get_or-set_other, get_or-set_same, rules}
 use native.Mathlib.Nat.{zero-div}
 use Rattle.std.proofs.lemmas.Bool.{cases_eq, both_ways, cond_both}
 use Rattle.bits.specs.Bit.{bit}
@@ -12,8 +12,8 @@ use Rattle.model.specs.Folds.{any_below}
 use Rattle.model.specs.declared.cell.Cell.{Cell}
 use Rattle.bitmap.specs.declared.row.Row.{Row}
 use Rattle.bitmap.specs.Layout.{ValidRow, cell_at, code_at, option_at, decode, valid_by, valid_at, CellSet}
-use Rattle.bitmap.specs.Items.{Items, item_in_use, pair_of, Kept, ItemSet}
-use Rattle.bitmap.specs.Tables.{empty_row, row_at, items_of, row_in_use, EachValid, EachInRange, OnePerPair, Bit, SamePair}
+use Rattle.bitmap.specs.Items.{item_in_use, pair_of, Kept, ItemSet}
+use Rattle.bitmap.specs.Tables.{empty_row, row_at, items_of, row_in_use, EachValid, EachInRange, OnePerPair, Bit}
 use Rattle.bitmap.proofs.Held.{set_kept}
 use Rattle.bitmap.proofs.Writing.{pair_below}
 

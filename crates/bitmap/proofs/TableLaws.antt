@@ -1,5 +1,5 @@
 -- The table of all objects, and one of them set.
-use Rattle.std.proofs.Common.{◌≡◌, ℕ, zero, suc, ◌<◌, Bool, true, false, cond, ◌&&◌, ltb, List, [], ◌∷◌, length, get_or, set, replicate, sym, refl, ap, ◌∙◌, subst, arith}
+use Rattle.std.proofs.Common.{◌≡◌, ℕ, zero, suc, ◌<◌, Bool, ◌&&◌, ltb, List, [], ◌∷◌, length, get_or, set, replicate, sym, refl, ap, ◌∙◌, subst, arith}
 use mathlib.Core.Path.{fun_ext}
 use Rattle.std.proofs.lemmas.Bool.{both_ways, cond_both}
 use Rattle.scales.specs.Five.{five}
@@ -12,7 +12,7 @@ use Rattle.bitmap.specs.declared.object_items.ObjectItems.{ObjectItems}
 use Rattle.scales.specs.declared.five.FiveState.{FiveState}
 use Rattle.model.specs.Joining.{joining}
 use Rattle.model.specs.declared.cell.Cell.{Cell}
-use Rattle.bitmap.specs.Items.{Items, held, pair_of, numbered, is_item_of, Kept, Written}
+use Rattle.bitmap.specs.Items.{held, pair_of, numbered, is_item_of, Kept, Written}
 use Rattle.bitmap.specs.Tables.{empty_row, row_at, items_of, row_in_use}
 use Rattle.bitmap.specs.Objects.{rows_of, items_at, table_cells}
 use Rattle.bitmap.proofs.Held.{held_none}

@@ -1,15 +1,15 @@
 -- What the items of each object answer is what the cells answer.
-use Rattle.std.proofs.Common.{◌≡◌, ℕ, zero, suc, ◌+◌, ◌*◌, ◌/◌, ◌%◌, ◌<◌, ◌≤◌, Bool, true, false, cond, not, ◌&&◌, ◌||◌, eqb, ltb, ◌⊎◌, sym, refl, ap, ◌∙◌, subst, inl, inr, ⊎_elim, arith}
+use Rattle.std.proofs.Common.{◌≡◌, ℕ, ◌+◌, ◌*◌, ◌/◌, ◌%◌, ◌<◌, true, false, cond, ◌&&◌, eqb, ltb, ◌⊎◌, sym, refl, ap, ◌∙◌, subst, inl, inr, ⊎_elim, arith}
 use Rattle.std.proofs.lemmas.Bool.{cases_Bool, eqb-true, eq-eqb, and_parts, and_from, both_ways, cond-true, cond-false, cond_both, lt-ltb, ltb-true}
 use Rattle.std.proofs.lemmas.Nat.{div-add-mod', mod_below, div_below}
 use Rattle.model.specs.Principals.{in_range, object_in_range}
 use Rattle.model.specs.Privileges.{bit}
 use Rattle.model.specs.States.{States, Lawful}
-use Rattle.model.specs.Joining.{Joining, joining, JoinLaws}
+use Rattle.model.specs.Joining.{joining, JoinLaws}
 use Rattle.model.specs.Allowed.{Allowed, unassigned}
 use Rattle.model.specs.Folds.{count_below, any_below, join_below}
-use Rattle.model.specs.Places.{place, place_in_range, number, principal_at, privilege_at}
-use Rattle.model.specs.Stores.{Cells, assigned, in_use, pairs, has_option, state_towards, strongest, Sound}
+use Rattle.model.specs.Places.{place_in_range, number, principal_at, privilege_at}
+use Rattle.model.specs.Stores.{assigned, in_use, pairs, has_option, state_towards, strongest, Sound}
 use Rattle.model.specs.declared.principal.Principal.{Principal}
 use Rattle.model.specs.declared.privilege.Privilege.{Privilege}
 use Rattle.model.specs.declared.place.Place.{Place}
@@ -18,7 +18,7 @@ use Rattle.model.specs.declared.cell.Orientation.{Orientation}
 use Rattle.model.proofs.Joins.{join_laws}
 use Rattle.model.proofs.Counting.{any_some, any_same, any_iff, count_same, count_owned, count_most}
 use Rattle.model.proofs.JoinFolds.{same_joined}
-use Rattle.model.proofs.Numbering.{number_in, number_out, in_number, number_at, bit_at, bit_below}
+use Rattle.model.proofs.Numbering.{number_in, in_number, number_at, bit_at}
 use Rattle.model.proofs.Outside.{towards_none, unassigned_allowed, answers_outside_lem}
 use Rattle.bitmap.specs.Items.{Items, item_in_use, held, pair_of, numbered, by_number, is_item_of, Kept, option_in, state_in}
 use Rattle.bitmap.proofs.Held.{held_one, held_cases, held_used}

@@ -1,15 +1,15 @@
 -- An item that is set writes one cell of the table.
-use Rattle.std.proofs.Common.{◌≡◌, ℕ, zero, suc, ◌+◌, ◌*◌, ◌<◌, ◌≤◌, Bool, true, false, cond, not, ◌&&◌, ◌||◌, eqb, ltb, ◌⊎◌, sym, refl, ap, ◌∙◌, subst, inl, inr, ⊎_elim, arith}
+use Rattle.std.proofs.Common.{◌≡◌, ℕ, ◌+◌, ◌*◌, ◌<◌, Bool, true, false, ◌&&◌, ◌||◌, eqb, ltb, sym, refl, ap, ◌∙◌, ⊎_elim, arith}
 use mathlib.Core.Path.{fun_ext}
 use Rattle.std.proofs.lemmas.Bool.{cases_eq, cases_Bool, eqb-true, eq-eqb, and_parts, and_from, both_ways, cond-true, cond-false, or_left, or_right, or_from, lt-ltb, le-ltb, ltb-true}
 use Rattle.model.specs.Principals.{in_range, object_in_range}
 use Rattle.model.specs.Privileges.{bit}
 use Rattle.model.specs.States.{States, Lawful}
-use Rattle.model.specs.Joining.{Joining, joining, JoinLaws}
+use Rattle.model.specs.Joining.{joining, JoinLaws}
 use Rattle.model.specs.Allowed.{Allowed, is_allowed, unassigned}
 use Rattle.model.specs.Folds.{count_below, any_below}
 use Rattle.model.specs.Places.{place_in_range, number}
-use Rattle.model.specs.Stores.{Cells, put, in_use, pairs, has_room, writable, after_write}
+use Rattle.model.specs.Stores.{put, in_use, has_room, writable, after_write}
 use Rattle.model.specs.declared.place.Place.{Place}
 use Rattle.model.specs.declared.cell.Cell.{Cell}
 use Rattle.model.proofs.Joins.{join_laws}

@@ -1,5 +1,5 @@
 -- What rows, and the table of all objects, hold.
-use Rattle.std.specs.Prelude.{◌≡◌, ℕ, zero, suc, ◌<◌, Bool, true, List, [], ◌∷◌, slice_index_or}
+use Rattle.std.specs.Prelude.{◌≡◌, ℕ, ◌<◌, Bool, true, List, slice_index_or}
 use Rattle.scales.specs.declared.five.FiveState.{FiveState}
 use Rattle.scales.specs.Five.{five}
 use Rattle.model.specs.Joining.{joining}

@@ -1,7 +1,7 @@
 -- What `|`, `^` and `1 << k` do to one bit.
-use Rattle.std.proofs.Common.{◌≡◌, ℕ, zero, suc, ◌+◌, ◌-◌, ◌*◌, ◌/◌, ◌%◌, ◌^◌, ◌<◌, ◌≤◌, min, max, Bool, true, false, ◌≢◌, ◌⊎◌, sym, refl, ap, ◌∙◌, ⊎_elim, arith, pow_mono}
+use Rattle.std.proofs.Common.{◌≡◌, ℕ, zero, suc, ◌+◌, ◌-◌, ◌*◌, ◌/◌, ◌%◌, ◌^◌, ◌<◌, ◌≤◌, max, sym, refl, ap, ◌∙◌, ⊎_elim, arith, pow_mono}
 use native.Mathlib.Nat.{div-eq_of_lt}
-use lib.Bits.{bit_and, bit_or, bit_xor, differ, or_step, xor_step, or_shr, xor_shr, and_mask}
+use lib.Bits.{bit_or, bit_xor, differ, or_step, xor_step, or_shr, xor_shr}
 use Rattle.std.proofs.lemmas.Nat.{shl-shr, mod_below, pow_below, pow-add, one_shl}
 use Rattle.std.proofs.lemmas.Bool.{cases_order}
 use Rattle.bits.specs.Bit.{bit}

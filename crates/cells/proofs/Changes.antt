@@ -1,8 +1,8 @@
 -- A record that is written over, added at the end, or struck out.
-use Rattle.std.proofs.Common.{◌≡◌, ℕ, ◌+◌, ◌-◌, ◌<◌, ◌≤◌, Bool, true, false, cond, not, ◌&&◌, ◌||◌, eqb, ◌⊎◌, List, length, set, sym, refl, ap, ◌∙◌, subst, ⊎_elim, add-one, arith, length-set}
+use Rattle.std.proofs.Common.{◌≡◌, ℕ, ◌+◌, ◌-◌, ◌<◌, ◌≤◌, true, false, cond, not, eqb, List, length, set, sym, refl, ap, ◌∙◌, subst, ⊎_elim, add-one, arith, length-set}
 use Rattle.std.proofs.lemmas.Bool.{cases_eq, cases_Bool, eqb-true, eq-eqb, ne_eqb, and_parts, cond-true, cond-false, not-true}
 use Rattle.model.specs.States.{States, Lawful}
-use Rattle.model.specs.Allowed.{Allowed, unassigned}
+use Rattle.model.specs.Allowed.{unassigned}
 use Rattle.model.specs.Folds.{one_if}
 use Rattle.model.specs.Places.{place_in_range}
 use Rattle.model.specs.Stores.{put}
@@ -11,8 +11,8 @@ use Rattle.model.specs.declared.cell.Cell.{Cell}
 use Rattle.model.proofs.Puts.{put_from}
 use Rattle.cells.specs.declared.record.CellRecord.{CellRecord}
 use Rattle.cells.specs.Kept.{place_at, state_at, nowhere, used_in, pairs_in, first_at, Assigned, Ranged, Distinct, Roomy, Kept}
-use Rattle.cells.specs.Listed.{cell_of_record, record_of, cell_at, list_cells}
-use Rattle.cells.proofs.Records.{part_same, part_other, state_cell, read_back}
+use Rattle.cells.specs.Listed.{cell_of_record, cell_at, list_cells}
+use Rattle.cells.proofs.Records.{part_same, part_other, state_cell}
 use Rattle.cells.proofs.Found.{held_none, held_one, held_kept}
 use Rattle.cells.proofs.PairCounts.{used_same, pairs_same, pairs_sub, pairs_step, range_parts}
 use Rattle.cells.proofs.Room.{fits_all}

@@ -1,5 +1,5 @@
 -- Reading and setting a record of the list.
-use Rattle.std.proofs.Common.{◌≡◌, ℕ, zero, suc, ◌<◌, Bool, true, false, cond, ◌&&◌, List, [], ◌∷◌, length, get_or, set, refl, arith, rules}
+use Rattle.std.proofs.Common.{◌≡◌, ℕ, zero, suc, ◌<◌, List, [], ◌∷◌, length, get_or, set, refl, arith, rules}
 use Rattle.model.specs.States.{States, Lawful}
 use Rattle.model.specs.Allowed.{Allowed}
 use Rattle.model.specs.declared.cell.Cell.{Cell}

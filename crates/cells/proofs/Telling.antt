@@ -1,15 +1,15 @@
 -- What a list's records answer is what its cells answer.
-use Rattle.std.proofs.Common.{◌≡◌, ℕ, zero, suc, ◌+◌, ◌*◌, ◌/◌, ◌%◌, ◌<◌, ◌≤◌, Bool, true, false, cond, not, ◌&&◌, ◌||◌, eqb, ltb, leb, ◌⊎◌, List, [], ◌∷◌, length, sym, refl, ap, ◌∙◌, subst, inl, inr, ⊎_elim, arith}
+use Rattle.std.proofs.Common.{◌≡◌, ℕ, zero, suc, ◌/◌, ◌%◌, ◌<◌, ◌≤◌, Bool, true, false, cond, ◌&&◌, ◌||◌, eqb, ltb, leb, ◌⊎◌, List, [], ◌∷◌, length, sym, refl, ap, ◌∙◌, subst, inl, inr, ⊎_elim, arith}
 use mathlib.Core.Path.{fun_ext}
 use Rattle.std.proofs.lemmas.Bool.{cases_Bool, eqb-true, eq-eqb, and_parts, and_from, both_ways, cond-true, cond-false, cond_both, not_from_false, or_left, ltb-true}
-use Rattle.model.specs.Principals.{in_range, object_in_range}
+use Rattle.model.specs.Principals.{object_in_range}
 use Rattle.model.specs.Privileges.{bit}
 use Rattle.model.specs.States.{States, Lawful, same}
 use Rattle.model.specs.Joining.{joining, JoinLaws}
 use Rattle.model.specs.Allowed.{Allowed, is_allowed, unassigned}
 use Rattle.model.specs.Folds.{count_below, any_below, join_below}
 use Rattle.model.specs.Places.{place, place_in_range, same_principal, principal_at, privilege_at, number}
-use Rattle.model.specs.Stores.{Cells, put, assigned, in_use, pairs, has_option, state_towards, strongest, has_room, writable, after_write, no_cells, Sound}
+use Rattle.model.specs.Stores.{put, assigned, in_use, pairs, has_option, state_towards, strongest, has_room, writable, after_write, no_cells, Sound}
 use Rattle.model.specs.declared.principal.Principal.{Principal}
 use Rattle.model.specs.declared.privilege.Privilege.{Privilege}
 use Rattle.model.specs.declared.place.Place.{Place}
@@ -22,7 +22,7 @@ use Rattle.model.proofs.Numbering.{number_in, at_number, bit_below, at_bit, bit_
 use Rattle.model.proofs.Outside.{towards_none, unassigned_none, unassigned_allowed, allowed_unassigned, answers_outside_lem}
 use Rattle.model.proofs.Allowing.{allowed_decides}
 use Rattle.cells.specs.declared.record.CellRecord.{CellRecord}
-use Rattle.cells.specs.Kept.{place_at, state_at, is_of, used_in, pairs_in, first_at, Ranged, Distinct, Roomy, Kept}
+use Rattle.cells.specs.Kept.{place_at, is_of, used_in, pairs_in, first_at, Ranged, Distinct, Kept}
 use Rattle.cells.specs.Listed.{cell_at, held, list_cells, ample, counted, is_for, option_by, state_by}
 use Rattle.cells.proofs.Records.{state_cell, record_allowed}
 use Rattle.cells.proofs.Found.{search_place, held_none, held_one}

@@ -1,5 +1,5 @@
 use lib.Bits.{and_mask}
-use Rattle.std.proofs.Common.{◌≡◌, ℕ, ◌%◌, ap, ◌∙◌, arith}
+use Rattle.std.proofs.Common.{ℕ, ◌%◌, ap, ◌∙◌, arith}
 use Rattle.bits.proofs.BitLaws.{bit_below, beyond}
 use Rattle.bits.proofs.digit.Goals as goal
 

@@ -1,4 +1,4 @@
-use Rattle.std.proofs.Common.{◌≡◌, Bool, cond, sym, ap, ◌∙◌, arith}
+use Rattle.std.proofs.Common.{Bool, cond, sym, ap, ◌∙◌, arith}
 use Rattle.bits.proofs.BitLaws.{raised_same, raised_other, lowered_same, lowered_other, mask_is}
 use Rattle.bits.proofs.with_bit.Goals as goal
 

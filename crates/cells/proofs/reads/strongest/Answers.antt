@@ -18,10 +18,10 @@ loop-i-preserved g c =
     let val = cell_at s c.args.records.now in
     let i = c.loop-i.i in
     let f : ℕ → g.row.S.Denot = λ i. state_by (joining s) c.args.object c.args.privilege c.args.grantee c.args.orientation (at i) (val i) in
-    let is : c.state-of-next.result ≡ f i =
-    c.state-of-next.ensures
-    ∙ ap (λ (a : Place). state_by (joining s) c.args.object c.args.privilege c.args.grantee c.args.orientation a (cell_of_record s c.record-at-slot.result)) c.record-at-slot.ensures.place
-    ∙ ap (λ (x : Cell g.row.S.Denot). state_by (joining s) c.args.object c.args.privilege c.args.grantee c.args.orientation (at i) x) c.record-at-slot.ensures.cell in
+    let is : c.state_of-next.result ≡ f i =
+    c.state_of-next.ensures
+    ∙ ap (λ (a : Place). state_by (joining s) c.args.object c.args.privilege c.args.grantee c.args.orientation a (cell_of_record s c.record_at-slot.result)) c.record_at-slot.ensures.place
+    ∙ ap (λ (x : Cell g.row.S.Denot). state_by (joining s) c.args.object c.args.privilege c.args.grantee c.args.orientation (at i) x) c.record_at-slot.ensures.cell in
     c.joined-strongest.ensures
     ∙ ap (λ (x : g.row.S.Denot). join s x c.loop-i.strongest) is
     ∙ ap (join s (f i)) c.loop-i.invariant

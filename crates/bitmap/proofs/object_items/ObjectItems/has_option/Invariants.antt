@@ -1,4 +1,4 @@
-use Rattle.std.proofs.Common.{◌≡◌, ℕ, ◌<◌}
+use Rattle.std.proofs.Common.{◌≡◌}
 use Rattle.scales.specs.Five.{five}
 use Rattle.model.specs.Joining.{joining}
 use Rattle.model.specs.Folds.{any_below}

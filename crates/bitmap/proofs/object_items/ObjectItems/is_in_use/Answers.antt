@@ -4,4 +4,4 @@ use Rattle.bitmap.proofs.RowLaws.{use_is}
 use Rattle.bitmap.proofs.object_items.ObjectItems.is_in_use.Goals as goal
 
 pub returns : goal.returns
-returns c = c.is-in-use.ensures ∙ ap row_in_use c.item.ensures ∙ use_is c.args.self.now.rows.row c.args.i
+returns c = c.is_in_use.ensures ∙ ap row_in_use c.item.ensures ∙ use_is c.args.self.now.rows.row c.args.i

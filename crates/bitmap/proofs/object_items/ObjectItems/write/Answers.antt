@@ -1,10 +1,8 @@
-use Rattle.std.proofs.Common.{◌≡◌, Bool, true, false, not, sym, ap, ◌∙◌, arith}
+use Rattle.std.proofs.Common.{sym, ◌∙◌}
 use Rattle.std.proofs.lemmas.Bool.{not-true, not-false}
 use Rattle.scales.specs.Five.{five}
-use Rattle.model.specs.Joining.{joining}
-use Rattle.model.specs.Allowed.{Allowed}
 use Rattle.model.proofs.Allowing.{allowed_decides}
-use Rattle.bitmap.specs.Items.{Kept, pair_of}
+use Rattle.bitmap.specs.Items.{pair_of}
 use Rattle.bitmap.specs.Tables.{items_of}
 use Rattle.bitmap.proofs.RowLaws.{five_lawful, rows_kept, items_allowed}
 use Rattle.bitmap.proofs.Writing.{pair_below, written_own, written_free, written_nothing, written_full}
@@ -19,14 +17,14 @@ returns-in-Some c =
     written_own five five_lawful (items_of was.rows.row) (rows_kept was.rows.row was.ranged was.single) l c.args.k c.args.cell
     (pair_below c.args.granter c.args.grantee c.requires.gives c.requires.gets) c.requires.bit (items_of after) (items_allowed after) c.in-Some.i w.0 c.put.ensures w.1
 
-pub returns-then-not-is-assigned : goal.returns-then-not-is-assigned
-returns-then-not-is-assigned c =
+pub returns-then-not-is_assigned : goal.returns-then-not-is_assigned
+returns-then-not-is_assigned c =
     let was = c.args.self.now in
     let l = pair_of c.args.granter c.args.grantee in
     written_nothing five five_lawful (items_of was.rows.row) (rows_kept was.rows.row was.ranged was.single) l c.args.k c.args.cell
-    (pair_below c.args.granter c.args.grantee c.requires.gives c.requires.gets) c.requires.bit c.in-default.ensures
+    (pair_below c.args.granter c.args.grantee c.requires.gives c.requires.gets) c.requires.bit c.in_default.ensures
     ((allowed_decides five five_lawful c.args.cell).0 c.requires.allowed)
-    (not-false _ (sym c.is-assigned.ensures ∙ c.if-not-is-assigned.true))
+    (not-false _ (sym c.is_assigned.ensures ∙ c.if-not-is_assigned.true))
 
 pub returns-in-Some-free : goal.returns-in-Some-free
 returns-in-Some-free c =
@@ -35,13 +33,13 @@ returns-in-Some-free c =
     let l = pair_of c.args.granter c.args.grantee in
     let w = c.in-Some-free.ensures in
     written_free five five_lawful (items_of was.rows.row) (rows_kept was.rows.row was.ranged was.single) l c.args.k c.args.cell
-    (pair_below c.args.granter c.args.grantee c.requires.gives c.requires.gets) c.requires.bit (items_of after) (items_allowed after) c.in-Some-free.i w.0 c.put-in-Some-free.ensures w.1 c.in-default.ensures
+    (pair_below c.args.granter c.args.grantee c.requires.gives c.requires.gets) c.requires.bit (items_of after) (items_allowed after) c.in-Some-free.i w.0 c.put-in-Some-free.ensures w.1 c.in_default.ensures
 
 pub returns-in-None : goal.returns-in-None
 returns-in-None c =
     let was = c.args.self.now in
     let l = pair_of c.args.granter c.args.grantee in
     written_full five five_lawful (items_of was.rows.row) (rows_kept was.rows.row was.ranged was.single) l c.args.k c.args.cell
-    (pair_below c.args.granter c.args.grantee c.requires.gives c.requires.gets) c.requires.bit c.in-default.ensures
-    (not-true _ (sym c.is-assigned.ensures ∙ c.if-not-is-assigned.false))
+    (pair_below c.args.granter c.args.grantee c.requires.gives c.requires.gets) c.requires.bit c.in_default.ensures
+    (not-true _ (sym c.is_assigned.ensures ∙ c.if-not-is_assigned.false))
     c.in-None.ensures

@@ -5,12 +5,12 @@ use Rattle.bitmap.proofs.row.Row.with_code.Goals as goal
 pub returns : goal.returns
 returns c =
     let k = c.args.k in
-    let a = c.with-digit.ensures in
-    let b = c.with-option.ensures in
-    let t = c.with-digit-2.ensures in
-    let s = c.with-digit-3.ensures in
-    let d = c.with-digit-4.ensures in
-    let n = c.with-digit-5.ensures in
+    let a = c.with_digit.ensures in
+    let b = c.with_option.ensures in
+    let t = c.with_digit-2.ensures in
+    let s = c.with_digit-3.ensures in
+    let d = c.with_digit-4.ensures in
+    let n = c.with_digit-5.ensures in
     record {
       here = omega (arith, five_bits c.args.code c.requires.code, b.others k (λ e. omega arith), a.same, t.same, s.same, d.same, n.same);
       option_here = b.same;

@@ -2,7 +2,6 @@ use Rattle.std.proofs.Common.{ℕ, List, sym, ap, ◌∙◌, rules}
 use Rattle.std.proofs.lemmas.Bool.{and_parts, ltb-true}
 use Rattle.scales.specs.Five.{five}
 use Rattle.model.specs.Principals.{in_range, object_in_range}
-use Rattle.model.specs.Privileges.{bit}
 use Rattle.model.specs.Joining.{joining}
 use Rattle.model.specs.Folds.{any_below}
 use Rattle.model.specs.Places.{number}
@@ -16,10 +15,10 @@ use Rattle.bitmap.proofs.Telling.{tell_option, cells_outside}
 use Rattle.bitmap.proofs.TableLaws.{items_kept, rows_getD}
 use Rattle.bitmap.proofs.store.BitmapTableStoreFiveState.has_option.Goals as goal
 
-pub returns-then-not-is-grantee-in-range : goal.returns-then-not-is-grantee-in-range
-returns-then-not-is-grantee-in-range c =
+pub returns-then-not-is_grantee_in_range : goal.returns-then-not-is_grantee_in_range
+returns-then-not-is_grantee_in_range c =
     let xs = c.args.self.now.objects in
-    sym ((answers_outside_lem five five_lawful (table_cells xs) (cells_outside five five_lawful (items_at xs))).no_option c.args.object c.args.privilege c.args.grantee (sym c.is-grantee-in-range.ensures ∙ c.if-not-is-grantee-in-range.true))
+    sym ((answers_outside_lem five five_lawful (table_cells xs) (cells_outside five five_lawful (items_at xs))).no_option c.args.object c.args.privilege c.args.grantee (sym c.is_grantee_in_range.ensures ∙ c.if-not-is_grantee_in_range.true))
 
 pub returns : goal.returns
 returns c =
@@ -27,7 +26,7 @@ returns c =
     let o = c.args.object in
     let e = c.args.grantee in
     let p = c.args.privilege in
-    let in- = and_parts (object_in_range o) (in_range e) (sym c.is-grantee-in-range.ensures ∙ c.if-not-is-grantee-in-range.false) in
+    let in- = and_parts (object_in_range o) (in_range e) (sym c.is_grantee_in_range.ensures ∙ c.if-not-is_grantee_in_range.false) in
     c.has_option.ensures
     ∙ ap (λ (rows : List Row). any_below 16 (option_in (joining five) (items_of rows) c.number.result c.bit.result)) (sym (rows_getD xs o _ (search rules)))
     ∙ ap (λ (n : ℕ). any_below 16 (option_in (joining five) (items_at xs o) n c.bit.result)) c.number.ensures

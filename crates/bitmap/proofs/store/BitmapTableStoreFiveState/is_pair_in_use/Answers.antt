@@ -13,10 +13,10 @@ use Rattle.bitmap.proofs.Telling.{tell_used, cells_outside}
 use Rattle.bitmap.proofs.TableLaws.{item_read, pair_read}
 use Rattle.bitmap.proofs.store.BitmapTableStoreFiveState.is_pair_in_use.Goals as goal
 
-pub returns-then-not-is-pair-in-range : goal.returns-then-not-is-pair-in-range
-returns-then-not-is-pair-in-range c =
+pub returns-then-not-is_pair_in_range : goal.returns-then-not-is_pair_in_range
+returns-then-not-is_pair_in_range c =
     let xs = c.args.self.now.objects in
-    sym ((answers_outside_lem five five_lawful (table_cells xs) (cells_outside five five_lawful (items_at xs))).no_use c.args.object c.args.granter c.args.grantee (sym c.is-pair-in-range.ensures ∙ c.if-not-is-pair-in-range.true))
+    sym ((answers_outside_lem five five_lawful (table_cells xs) (cells_outside five five_lawful (items_at xs))).no_use c.args.object c.args.granter c.args.grantee (sym c.is_pair_in_range.ensures ∙ c.if-not-is_pair_in_range.true))
 
 pub returns-in-Some : goal.returns-in-Some
 returns-in-Some c =
@@ -24,7 +24,7 @@ returns-in-Some c =
     let o = c.args.object in
     let l = pair_of (number c.args.granter) (number c.args.grantee) in
     let inside : o < length xs = search rules in
-    let ranges = and_parts (object_in_range o) (in_range c.args.granter && in_range c.args.grantee) (sym c.is-pair-in-range.ensures ∙ c.if-not-is-pair-in-range.false) in
+    let ranges = and_parts (object_in_range o) (in_range c.args.granter && in_range c.args.grantee) (sym c.is_pair_in_range.ensures ∙ c.if-not-is_pair_in_range.false) in
     let both = and_parts (in_range c.args.granter) (in_range c.args.grantee) ranges.1 in
     let w = c.in-Some.ensures in
     sym (tell_used five five_lawful (items_at xs) o c.args.granter c.args.grantee (ltb-true o 32 ranges.0) both.0 both.1
@@ -36,7 +36,7 @@ returns-in-None c =
     let o = c.args.object in
     let l = pair_of (number c.args.granter) (number c.args.grantee) in
     let inside : o < length xs = search rules in
-    let ranges = and_parts (object_in_range o) (in_range c.args.granter && in_range c.args.grantee) (sym c.is-pair-in-range.ensures ∙ c.if-not-is-pair-in-range.false) in
+    let ranges = and_parts (object_in_range o) (in_range c.args.granter && in_range c.args.grantee) (sym c.is_pair_in_range.ensures ∙ c.if-not-is_pair_in_range.false) in
     let both = and_parts (in_range c.args.granter) (in_range c.args.grantee) ranges.1 in
     sym (tell_used five five_lawful (items_at xs) o c.args.granter c.args.grantee (ltb-true o 32 ranges.0) both.0 both.1
     ∙ any_none 16 (is_item_of (joining five) (items_at xs o) l) (λ i lt. item_read xs o c.index-self-object.result inside i (pair_read c.number.ensures c.number-2.ensures) ∙ c.in-None.ensures i lt))

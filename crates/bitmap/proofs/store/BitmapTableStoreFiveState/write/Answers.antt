@@ -18,8 +18,8 @@ returns c =
     let o = p.object in
     let new = c.write.new.self in
     let within : o < length xs = search rules in
-    let inside : place_in_range p ≡ true = sym c.is-in-range.ensures ∙ c.if-not-is-in-range.false in
-    let fine : is_allowed five c.args.cell.now ≡ true = sym c.is_allowed.ensures.value ∙ c.if-not-is-allowed.false in
+    let inside : place_in_range p ≡ true = sym c.is_in_range.ensures ∙ c.if-not-is_in_range.false in
+    let fine : is_allowed five c.args.cell.now ≡ true = sym c.is_allowed.ensures.value ∙ c.if-not-is_allowed.false in
     let written : Written five (items_at xs o) (items_at (set xs o new) o) (pair_of (number p.granter) (number p.grantee)) (bit p.privilege) c.args.cell.now c.write.result =
     written_read (sym (rows_getD xs o c.index-self-place.result within)) (sym (rows_same xs o new within)) (pair_read c.number-granter.ensures c.number-grantee.ensures) c.bit.ensures.value c.write.ensures in
     let apart : (q : ℕ) → (q ≡ o → ⊥) → items_at (set xs o new) q ≡ items_at xs q = λ q ne. ap items_of (rows_other xs o new q ne) in

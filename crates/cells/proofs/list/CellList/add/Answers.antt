@@ -1,10 +1,8 @@
-use Rattle.std.proofs.Common.{◌≡◌, ℕ, ◌+◌, ◌<◌, ◌≤◌, List, length, set, sym, refl, ap, ◌∙◌, subst, arith, length-set}
-use Rattle.model.specs.declared.cell.Cell.{Cell}
+use Rattle.std.proofs.Common.{◌+◌, ◌<◌, length, set, sym, refl, ap, ◌∙◌, subst, arith, length-set}
 use Rattle.model.specs.Stores.{put}
-use Rattle.model.specs.Allowed.{unassigned}
 use Rattle.cells.specs.declared.record.CellRecord.{CellRecord}
 use Rattle.cells.specs.Kept.{Kept, place_at}
-use Rattle.cells.specs.Listed.{list_cells, record_of, cell_of_record}
+use Rattle.cells.specs.Listed.{list_cells, record_of}
 use Rattle.cells.proofs.Records.{read_back}
 use Rattle.cells.proofs.Changes.{add_fits, add_kept, add_cells, cells_to}
 use Rattle.cells.proofs.list.CellList.add.Goals as goal

@@ -4,8 +4,14 @@ use Rattle.cells.proofs.PairCounts.{pairs_start}
 use Rattle.cells.proofs.Telling.{new_memory, new_empty}
 use Rattle.cells.proofs.list.CellList.new.Goals as goal
 
-pub invariant-of-result : goal.invariant-of-result
-invariant-of-result g c = (omega arith, ((λ i lt. absurd (omega arith)), ((λ i lt. absurd (omega arith)), ((λ i j w. absurd (omega (arith, w.first))), ((λ o lt. omega (arith, pairs_start (place_at c.args.records.now) o)), tt)))))
+pub invariant_of-result : goal.invariant_of-result
+invariant_of-result g c = record {
+  within = omega arith;
+  assigned = λ i lt. absurd (omega arith);
+  ranged = λ i lt. absurd (omega arith);
+  distinct = λ i j w. absurd (omega (arith, w.first));
+  roomy = λ o lt. omega (arith, pairs_start (place_at c.args.records.now) o);
+}
 
 pub returns : goal.returns
 returns g c = record {

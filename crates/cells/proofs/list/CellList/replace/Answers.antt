@@ -1,10 +1,8 @@
-use Rattle.std.proofs.Common.{◌≡◌, ℕ, ◌+◌, ◌<◌, ◌≤◌, List, length, set, sym, ap, ◌∙◌, subst, arith, length-set}
-use Rattle.model.specs.declared.cell.Cell.{Cell}
+use Rattle.std.proofs.Common.{◌<◌, length, set, sym, ap, ◌∙◌, subst, arith, length-set}
 use Rattle.model.specs.Stores.{put}
-use Rattle.model.specs.Allowed.{unassigned}
 use Rattle.cells.specs.declared.record.CellRecord.{CellRecord}
-use Rattle.cells.specs.Kept.{Kept, place_at}
-use Rattle.cells.specs.Listed.{list_cells, record_of, cell_of_record}
+use Rattle.cells.specs.Kept.{Kept}
+use Rattle.cells.specs.Listed.{list_cells, record_of}
 use Rattle.cells.proofs.Records.{read_back}
 use Rattle.cells.proofs.Changes.{replace_kept, replace_cells, cells_to}
 use Rattle.cells.proofs.list.CellList.replace.Goals as goal
@@ -22,7 +20,7 @@ rewrite-requires g c =
     record {
       inside = inside;
       kept = subst (λ (x : CellRecord g.row.S.Denot). Kept t.unassign (set t.records.now c.args.i x) t.len) (sym e)
-          (replace_kept s law t.unassign t.records.now t.len kept c.args.i r inside c.requires.assigned c.requires.counts c.requires.own_val);
+          (replace_kept s law t.unassign t.records.now t.len kept c.args.i r inside c.requires.assigned c.requires.counts c.requires.own);
     }
 
 pub returns : goal.returns
@@ -37,7 +35,7 @@ returns g c =
     let e = c.new-slot.ensures in
     record {
       cells = cells_to s (c.rewrite.ensures.records ∙ ap (set t.records.now c.args.i) e) c.rewrite.ensures.count
-          ∙ replace_cells s law t.unassign t.records.now t.len kept c.args.i r inside c.requires.assigned c.requires.counts c.requires.own_val
+          ∙ replace_cells s law t.unassign t.records.now t.len kept c.args.i r inside c.requires.assigned c.requires.counts c.requires.own
           ∙ ap (put (list_cells s t.records.now t.len) p) (read_back s law p c.args.cell.now c.requires.allowed);
       memory = ap length c.rewrite.ensures.records ∙ simp length-set;
       same = c.rewrite.ensures.same;

@@ -6,12 +6,12 @@ use Rattle.cells.specs.Listed.{list_cells, cell_at}
 use Rattle.cells.proofs.Found.{held_none}
 use Rattle.cells.proofs.list.CellList.revoke.Goals as goal
 
-pub returns-in-default : goal.returns-in-default
-returns-in-default g c =
+pub returns-in_default : goal.returns-in_default
+returns-in_default g c =
     let s = g.S.Scale.states in
     let t = c.args.self.now in
     record {
-      cells = put_idle (list_cells s t.records.now t.len) c.args.place (unassigned s) (held_none s (place_at t.records.now) (cell_at s t.records.now) t.len c.args.place c.in-default.ensures);
+      cells = put_idle (list_cells s t.records.now t.len) c.args.place (unassigned s) (held_none s (place_at t.records.now) (cell_at s t.records.now) t.len c.args.place c.in_default.ensures);
       memory = refl;
       same = refl;
     }

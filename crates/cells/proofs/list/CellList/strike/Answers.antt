@@ -1,11 +1,5 @@
-use Rattle.std.proofs.Common.{◌≡◌, ℕ, ◌+◌, ◌<◌, ◌≤◌, List, length, set, sym, refl, ap, ◌∙◌, arith, length-set}
-use Rattle.model.specs.declared.cell.Cell.{Cell}
-use Rattle.model.specs.Stores.{put}
-use Rattle.model.specs.Allowed.{unassigned}
-use Rattle.cells.specs.declared.record.CellRecord.{CellRecord}
-use Rattle.cells.specs.Kept.{Kept, place_at}
-use Rattle.cells.specs.Listed.{list_cells, record_of, cell_of_record}
-use Rattle.cells.proofs.Records.{read_back}
+use Rattle.std.proofs.Common.{◌<◌, length, ap, ◌∙◌, arith, length-set}
+use Rattle.cells.specs.Kept.{Kept}
 use Rattle.cells.proofs.Changes.{strike_kept, strike_cells, cells_to}
 use Rattle.cells.proofs.list.CellList.strike.Goals as goal
 
@@ -27,7 +21,7 @@ returns g c =
     let inside : c.args.i < length t.records.now = omega (arith, c.requires.counts, t.within) in
     record {
       cells = cells_to s c.rewrite.ensures.records c.rewrite.ensures.count
-          ∙ strike_cells s g.met.S.Scale.lawful t.unassign t.records.now t.len kept c.args.i c.slot-slot.result inside c.requires.counts c.slot-slot.ensures.place c.slot-slot.ensures.cell c.args.place c.requires.own_val;
+          ∙ strike_cells s g.met.S.Scale.lawful t.unassign t.records.now t.len kept c.args.i c.slot-slot.result inside c.requires.counts c.slot-slot.ensures.place c.slot-slot.ensures.cell c.args.place c.requires.own;
       memory = ap length c.rewrite.ensures.records ∙ simp length-set;
       same = c.rewrite.ensures.same;
     }
