@@ -2,10 +2,10 @@
 use Rattle.std.proofs.Common.{◌≡◌, ℕ, ◌+◌, ◌<◌, ◌≤◌, List, [], ◌∷◌, ◌++◌, length, get_or, take, drop, Some, None, Ok, Err, Option, Result, sym, refl, ap, ◌∙◌, subst, append_assoc, append-nil, zero-add, arith, length-append, length-drop, length-take}
 use Rattle.std.specs.Option as options
 use Rattle.std.specs.Result as results
-use Rattle.std.specs.List.{flat_map, AllByRecursion as All}
-use Rattle.std.proofs.lemmas.List.{get_or-append-add, get_or_at, get_or-take, drop_at, take_at, take-append-drop, drop-drop, drop_more, drop_all, drop-take, length-take-le}
+use Rattle.std.specs.List.{AllByRecursion as All}
+use Rattle.std.proofs.lemmas.List.{get_or-append-add, get_or_at, get_or-take, drop_at, take_at, take-append-drop, drop-drop, drop_more, drop_all, drop-take}
 use Rattle.reading.specs.Faults.{place_of}
-use Rattle.reading.specs.Records.{Frame, questions, Stands, Refused, after}
+use Rattle.reading.specs.Records.{Frame, Stands, Refused, after}
 use Rattle.reading.specs.Cut.{Entry, Cut, with_record, frames, or_fault, damage, Sound, bytes_of, written, entries, Covers, ReadingLaws}
 use Rattle.reading.specs.declared.fault.ReadingFault.{ReadingFault}
 use Rattle.reading.proofs.Cuts.{body_length, ends_within, sound_record, one_way}

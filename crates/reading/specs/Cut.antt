@@ -1,5 +1,5 @@
 -- How an input is cut into records, and what holds of every cut.
-use Rattle.std.specs.Prelude.{◌≡◌, ℕ, ◌+◌, ◌≤◌, List, [], ◌∷◌, ◌++◌, length, take, drop, Some, None, Ok, Err, Option, Result, ◌≢◌}
+use Rattle.std.specs.Prelude.{◌≡◌, ℕ, ◌≤◌, List, [], ◌∷◌, ◌++◌, length, take, drop, Some, None, Ok, Err, Option, Result, ◌≢◌}
 use Rattle.std.specs.Option as options
 use Rattle.std.specs.Result as results
 use Rattle.std.specs.List.{flat_map, AllByRecursion as All}

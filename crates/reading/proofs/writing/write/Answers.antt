@@ -1,5 +1,5 @@
 -- The two appends, one after the other, are the record's bytes.
-use Rattle.std.proofs.Common.{◌≡◌, ℕ, List, [], ◌∷◌, ◌++◌, length, vec_items, ap, ◌∙◌, append_assoc, arith}
+use Rattle.std.proofs.Common.{◌≡◌, ℕ, List, [], ◌∷◌, ◌++◌, length, vec_items, ap, ◌∙◌, append_assoc}
 use Rattle.reading.proofs.writing.write.Goals as goal
 
 pub returns : goal.returns
