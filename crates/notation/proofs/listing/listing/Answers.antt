@@ -7,7 +7,7 @@ use Rattle.notation.proofs.listing.listing.Goals as goal
 pub returns-in-Err : goal.returns-in-Err
 returns-in-Err c =
     spoiled c.args.input.now c.loop-found.at (string_bytes c.loop-found.out) c.loop-found.invariant c.in-Err.fault c.in-Err.ensures.answer
-    (string_bytes c.show_fault.new.out) c.in_ok-show_fault.ensures
+    (string_bytes c.show_fault.new.out) c.in_ok-show_fault-in-Err.ensures
 
 pub returns-in_default : goal.returns-in_default
 returns-in_default c =
