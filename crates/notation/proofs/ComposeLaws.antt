@@ -1,15 +1,15 @@
 -- Composing a file line by line.
-use Rattle.std.proofs.Common.{◌≡◌, ℕ, ◌+◌, ◌-◌, ◌<◌, ◌≤◌, true, false, cond, ◌⊎◌, List, [], ◌∷◌, ◌++◌, map, length, take, drop, None, sym, refl, ap, ◌∙◌, subst, inl, inr, append_assoc, append-nil, arith, length-append}
+use Rattle.std.proofs.Common.{◌≡◌, ℕ, ◌+◌, ◌≤◌, true, false, cond, List, [], ◌∷◌, ◌++◌, map, length, drop, None, sym, refl, ap, ◌∙◌, subst, inl, inr, append_assoc, append-nil, arith, length-append}
 use Rattle.std.proofs.ByRecursion.{All-push, All-weaker}
 use Rattle.std.proofs.lemmas.List.{drop_all, flat_map_more, map_push}
-use Rattle.std.specs.List.{flat_map, AllByRecursion}
+use Rattle.std.specs.List.{AllByRecursion}
 use Rattle.reading.specs.Records.{Frame, after}
 use Rattle.reading.specs.Cut.{Cut, Sound, bytes_of, frames, damage, written, entries}
 use Rattle.reading.proofs.Covering.{reading_laws}
 use Rattle.notation.specs.Adding.{Added, Taken, NotTaken}
 use Rattle.notation.specs.declared.bodies.Bodies.{Bodies}
 use Rattle.notation.specs.Lines.{lines, unremarked, skipped, kept, statements}
-use Rattle.notation.specs.Results.{States, Listed, Composed, Unstated}
+use Rattle.notation.specs.Results.{Listed, Composed, Unstated}
 use Rattle.notation.specs.Shown.{line, entries_of, Statable, Passes}
 use Rattle.notation.proofs.ListLaws.{listed_lines}
 use Rattle.notation.proofs.Splitting.{kept_more}

@@ -1,17 +1,17 @@
 -- Listing an input record by record.
-use Rattle.std.proofs.Common.{◌≡◌, ℕ, ◌+◌, ◌<◌, ◌≤◌, List, [], ◌∷◌, ◌++◌, map, length, Some, None, Ok, Err, Option, Result, sym, refl, ap, ◌∙◌, subst, append_assoc, append-nil, arith}
+use Rattle.std.proofs.Common.{◌≡◌, ℕ, ◌≤◌, List, [], ◌∷◌, ◌++◌, map, length, None, Ok, Err, Option, Result, sym, refl, ap, ◌∙◌, subst, append_assoc, append-nil, arith}
 use Rattle.std.proofs.ByRecursion.{All-push}
 use Rattle.std.proofs.lemmas.List.{flat_map_more, map_push}
 use Rattle.std.proofs.lemmas.Option.{MatchOption-at_none}
-use Rattle.std.specs.List.{flat_map, AllByRecursion}
+use Rattle.std.specs.List.{AllByRecursion}
 use Rattle.reading.specs.Faults.{number_of, place_of}
 use Rattle.reading.specs.Records.{Frame, Stands, Refused, after}
 use Rattle.reading.specs.Cut.{Entry, Cut, with_record, frames, or_fault, damage, Sound, bytes_of, written}
 use Rattle.reading.specs.declared.fault.ReadingFault.{ReadingFault}
 use Rattle.reading.proofs.Covering.{reading_laws}
 use Rattle.reading.proofs.Cuts.{ends_within}
-use Rattle.notation.specs.Lines.{lines, unremarked, kept, statements}
-use Rattle.notation.specs.Results.{States, Listed}
+use Rattle.notation.specs.Lines.{lines, unremarked, kept}
+use Rattle.notation.specs.Results.{Listed}
 use Rattle.notation.specs.Shown.{line, told, ended, Item, RemarkOn, Remarked, RightlyRemarked, shown_entry, listed, entries_of, Byte, Statable}
 use Rattle.notation.proofs.Splitting.{lines_feed}
 use Rattle.notation.proofs.Visible.{Remark, remark_shape, line_visible, before_remark, one_line}

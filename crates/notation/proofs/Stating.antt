@@ -2,9 +2,8 @@
 use Rattle.std.proofs.Common.{◌≡◌, ℕ, ◌≤◌, List, [], ◌∷◌, ◌++◌, map, length, drop, sym, refl, ap, ◌∙◌, arith}
 use Rattle.std.specs.List.{flat_map, AllByRecursion}
 use Rattle.reading.specs.Records.{Frame}
-use Rattle.reading.specs.Cut.{Sound}
 use Rattle.reading.proofs.Cuts.{same_frame}
-use Rattle.notation.specs.Shown.{head, shown, line, Byte, Statable}
+use Rattle.notation.specs.Shown.{head, shown, line, Statable}
 use Rattle.notation.proofs.Heads.{same_head}
 use Rattle.notation.proofs.Showing.{same_body}
 

@@ -2,7 +2,7 @@
 use Rattle.std.specs.Prelude.{◌≡◌, ℕ, ◌+◌, false, List, ◌∷◌, ◌++◌, map, length, None, ◌≢◌}
 use Rattle.std.specs.List.{AllByRecursion}
 use Rattle.reading.specs.Records.{Frame}
-use Rattle.reading.specs.Cut.{Entry, Cut, frames, damage, written, entries}
+use Rattle.reading.specs.Cut.{Cut, frames, damage, written, entries}
 use Rattle.notation.specs.declared.bodies.Bodies.{Bodies}
 use Rattle.notation.specs.Lines.{lines, unremarked, skipped, kept, statements}
 use Rattle.notation.specs.Shown.{line, Item, RightlyRemarked, listed, entries_of, Byte, Statable, Passes}

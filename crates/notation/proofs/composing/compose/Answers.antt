@@ -1,4 +1,4 @@
-use Rattle.std.proofs.Common.{◌+◌, ◌-◌, take, drop, vec_items, subst, arith}
+use Rattle.std.proofs.Common.{◌-◌, take, drop, vec_items, subst, arith}
 use Rattle.notation.specs.Adding.{Taken, NotTaken}
 use Rattle.notation.proofs.ComposeLaws.{start, next, stop, finish}
 use Rattle.notation.proofs.Splitting.{first_line}

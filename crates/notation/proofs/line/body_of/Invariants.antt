@@ -1,4 +1,4 @@
-use Rattle.std.proofs.Common.{◌≡◌, ◌-◌, ◌≤◌, ◌++◌, length, drop, vec_items}
+use Rattle.std.proofs.Common.{◌≡◌, ◌-◌, ◌++◌, length, drop, vec_items}
 use Rattle.std.specs.List.{flat_map, AllByRecursion}
 use Rattle.notation.specs.Shown.{shown, Byte}
 use Rattle.notation.proofs.line.body_of.Given as goal
