@@ -1,5 +1,5 @@
 -- Questions in order have one first no, and none where all are answered yes.
-use Rattle.std.proofs.Common.{◌≡◌, ℕ, ◌⊎◌, List, [], ◌∷◌, sym, ◌∙◌, inl, inr, ⊎_elim}
+use Rattle.std.proofs.Common.{◌≡◌, ℕ, List, [], ◌∷◌, sym, ◌∙◌, inl, inr}
 use Rattle.reading.specs.Questions.{Question, AllYes, FirstNo}
 
 pub one_first : (qs : List Question) (j k : ℕ) → FirstNo qs j → FirstNo qs k → j ≡ k

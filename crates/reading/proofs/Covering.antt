@@ -2,10 +2,10 @@
 use Rattle.std.proofs.Common.{◌≡◌, ℕ, ◌+◌, ◌<◌, ◌≤◌, List, [], ◌∷◌, ◌++◌, length, get_or, take, drop, Some, None, Ok, Err, Option, Result, sym, refl, ap, ◌∙◌, subst, append_assoc, append-nil, zero-add, arith, length-append, length-drop, length-take}
 use Rattle.std.specs.Option as options
 use Rattle.std.specs.Result as results
-use Rattle.std.specs.List.{flat_map, AllByRecursion as All}
-use Rattle.std.proofs.lemmas.List.{get_or-append-add, get_or_at, get_or-take, drop_at, take_at, take-append-drop, drop-drop, drop_more, drop_all, drop-take, length-take-le}
+use Rattle.std.specs.List.{AllByRecursion}
+use Rattle.std.proofs.lemmas.List.{get_or-append-add, get_or_at, get_or-take, drop_at, take_at, take-append-drop, drop-drop, drop_more, drop_all, drop-take}
 use Rattle.reading.specs.Faults.{place_of}
-use Rattle.reading.specs.Records.{Frame, questions, Stands, Refused, after}
+use Rattle.reading.specs.Records.{Frame, Stands, Refused, after}
 use Rattle.reading.specs.Cut.{Entry, Cut, with_record, frames, or_fault, damage, Sound, bytes_of, written, entries, Covers, ReadingLaws}
 use Rattle.reading.specs.declared.fault.ReadingFault.{ReadingFault}
 use Rattle.reading.proofs.Cuts.{body_length, ends_within, sound_record, one_way}
@@ -71,7 +71,7 @@ no_further bs cs at f h e =
 record CoversFrom (bs : List ℕ) (at : ℕ) (fs : List Frame) (d : Option ReadingFault) : Type 0 where
   pub rest : List ℕ
   pub whole : drop at bs ≡ written fs ++ rest
-  pub sound : All Sound fs
+  pub sound : AllByRecursion Sound fs
   pub ends : options.MatchOption d (rest ≡ []) (λ k. (place_of k ≡ at + length (written fs)) × (rest ≡ [] → ⊥))
 
 -- the fault's place, seen from a record earlier
@@ -112,7 +112,7 @@ covers bs es c =
     let h = covers_from bs 0 es (omega arith) c in
     record { rest = h.rest; whole = h.whole; sound = h.sound; ends = simp zero-add at h.ends }
 
-cuts_back_from : (before : List ℕ) (fs : List Frame) (at : ℕ) (bs : List ℕ) → at ≡ length before → bs ≡ before ++ written fs → All Sound fs → Cut bs at (entries at fs)
+cuts_back_from : (before : List ℕ) (fs : List Frame) (at : ℕ) (bs : List ℕ) → at ≡ length before → bs ≡ before ++ written fs → AllByRecursion Sound fs → Cut bs at (entries at fs)
 cuts_back_from before [] at bs n e s = n ∙ ap length (sym (e ∙ append-nil before))
 cuts_back_from before (f ∷ fs) at bs n e s =
     let here : Stands bs at f = subst (λ xs. Stands xs at f) (sym e) (subst (λ k. Stands (before ++ (bytes_of f ++ written fs)) k f) (sym n) (reads_back before f (written fs) s.0).0) in

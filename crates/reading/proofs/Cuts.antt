@@ -1,14 +1,12 @@
 -- Every input is cut in one way only, and the cut covers it.
-use Rattle.std.proofs.Common.{◌≡◌, ℕ, zero, suc, ◌+◌, ◌-◌, ◌<◌, ◌≤◌, Bool, true, false, cond, eqb, ◌⊎◌, List, [], ◌∷◌, ◌++◌, length, get_or, take, drop, Some, None, Ok, Err, Option, Result, sym, refl, ap, ◌∙◌, subst, inl, inr, ⊎_elim, append_assoc, append-nil, arith, length-append, length-drop, length-take, rules}
-use Rattle.std.specs.Option as options
+use Rattle.std.proofs.Common.{◌≡◌, ℕ, zero, suc, ◌+◌, ◌≤◌, cond, eqb, ◌⊎◌, List, [], ◌∷◌, length, get_or, take, drop, Ok, Err, Result, sym, refl, ap, ◌∙◌, subst, inl, inr, arith, length-drop}
 use Rattle.std.specs.Result as results
-use Rattle.std.specs.List.{flat_map, AllByRecursion as All}
-use Rattle.std.proofs.lemmas.List.{length-take-le, get_or-append-add, drop_at, take_at, take-append-drop, drop_all, get_or-take, drop-drop, drop_more, drop-take, take-take, nil_from_length, places}
+use Rattle.std.proofs.lemmas.List.{length-take-le}
 use Rattle.std.proofs.lemmas.Bool.{cases_lt, cases_eq}
 use Rattle.reading.specs.Questions.{AllYes, FirstNo}
 use Rattle.reading.specs.Faults.{number_of, place_of}
 use Rattle.reading.specs.Records.{Frame, questions, Stands, Refused, after}
-use Rattle.reading.specs.Cut.{Entry, Cut, with_record, frames, or_fault, damage, Sound, bytes_of, written, entries, Covers, ReadingLaws}
+use Rattle.reading.specs.Cut.{Entry, Cut, Sound}
 use Rattle.reading.specs.declared.fault.ReadingFault.{ReadingFault}
 use Rattle.reading.specs.declared.fault.ReadingFault.TheVariants.{Header, Mark, Issuer, Length, Body}
 use Rattle.reading.proofs.Asking.{one_first, no_first}

@@ -1,8 +1,8 @@
 -- How an input is cut into records, and what holds of every cut.
-use Rattle.std.specs.Prelude.{◌≡◌, ℕ, ◌+◌, ◌≤◌, List, [], ◌∷◌, ◌++◌, length, take, drop, Some, None, Ok, Err, Option, Result, ◌≢◌}
+use Rattle.std.specs.Prelude.{◌≡◌, ℕ, ◌≤◌, List, [], ◌∷◌, ◌++◌, length, take, drop, Some, None, Ok, Err, Option, Result, ◌≢◌}
 use Rattle.std.specs.Option as options
 use Rattle.std.specs.Result as results
-use Rattle.std.specs.List.{flat_map, AllByRecursion as All}
+use Rattle.std.specs.List.{flat_map, AllByRecursion}
 use Rattle.reading.specs.Faults.{place_of}
 use Rattle.reading.specs.Records.{Frame, Stands, Refused, after}
 use Rattle.reading.specs.declared.fault.ReadingFault.{ReadingFault}
@@ -60,7 +60,7 @@ entries at (f ∷ fs) = record { offset = at; what = Ok f } ∷ entries (after a
 pub record Covers (bs : List ℕ) (es : List Entry) : Type 0 where
   pub rest : List ℕ
   pub whole : bs ≡ written (frames es) ++ rest
-  pub sound : All Sound (frames es)
+  pub sound : AllByRecursion Sound (frames es)
   pub ends : options.MatchOption (damage es) (rest ≡ []) (λ k. (place_of k ≡ length (written (frames es))) × (rest ≢ []))
 
 pub record ReadingLaws : Type 0 where
@@ -74,4 +74,4 @@ pub record ReadingLaws : Type 0 where
   -- the cut covers the input
   pub covers : (bs : List ℕ) (es : List Entry) → Cut bs 0 es → Covers bs es
   -- what was written is cut into what was written
-  pub cuts_back : (fs : List Frame) → All Sound fs → Cut (written fs) 0 (entries 0 fs)
+  pub cuts_back : (fs : List Frame) → AllByRecursion Sound fs → Cut (written fs) 0 (entries 0 fs)
