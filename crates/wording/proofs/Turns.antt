@@ -1,7 +1,7 @@
 -- What one turn through the words keeps.
 use Rattle.std.proofs.Common.{◌≡◌, ℕ, ◌+◌, ◌<◌, List, [], ◌∷◌, ◌++◌, length, sym, refl, ap, ◌∙◌, subst, append_assoc, append-nil, arith}
 use Rattle.std.specs.List.{AllByRecursion}
-use Rattle.std.proofs.slice.Lists.{all_by_recursion_push}
+use Rattle.std.proofs.SliceLists.{all_by_recursion_push}
 use Rattle.words.specs.Words.{words, words_from}
 use Rattle.grammar.specs.Sentences.{offset}
 use Rattle.wording.specs.Ranges.{Fine, Exceeds, FineWord, LargeWord}

@@ -3,8 +3,8 @@ use Rattle.words.proofs.Joins.{some_first}
 use Rattle.grammar.proofs.Bodies.{no_command}
 use Rattle.grammar.proofs.command.Goals as goal
 
-pub returns-in-default : goal.returns-in-default
-returns-in-default c = absurd (some_first _ c.in-default.ensures)
+pub returns-in_default : goal.returns-in_default
+returns-in_default c = absurd (some_first _ c.in_default.ensures)
 
-pub returns-in-default-command-of : goal.returns-in-default-command-of
-returns-in-default-command-of c = no_command _ _ _ c.in-Some.ensures.first (λ k e. c.in-default-command-of.ensures k (c.text-text.ensures ∙ e))
+pub returns-in_default-command_of : goal.returns-in_default-command_of
+returns-in_default-command_of c = no_command _ _ _ c.in-Some.ensures.first (λ k e. c.in_default-command_of.ensures k (c.text-text.ensures ∙ e))

@@ -2,8 +2,8 @@ use Rattle.std.proofs.Common.{◌≡◌, ◌-◌, take, ap, ◌∙◌, subst, ar
 use Rattle.words.proofs.Cuts.{past, step, Word}
 use Rattle.words.proofs.word_at.Goals as goal
 
-pub returns-in-default : goal.returns-in-default
-returns-in-default c = past _ _ c.in-default.ensures
+pub returns-in_default : goal.returns-in_default
+returns-in_default c = past _ _ c.in_default.ensures
 
 pub returns : goal.returns
 returns c =

@@ -15,23 +15,23 @@ typed : {bs : List ℕ} {at a b d o : ℕ} (t : Kind) (p : ℕ) → (o ≤ 99) �
 typed {o = o} t p x y z h =
     on an_object (word (codes "TYPE") ∷ a_kind ∷ owner_slots) [] p x.1 (o, x.0, refl) (on (word (codes "TYPE")) (a_kind ∷ owner_slots) [] p y refl (on a_kind owner_slots [] p z (t, refl) h))
 
-pub returns-in-err-next-2 : goal.returns-in-err-next-2
-returns-in-err-next-2 c =
-    exit _ (rest Object) (tail Object) _ _ _ c.from-residual-in-err-next-2.result c.from-residual-in-err-next-2.ensures.1
-    (typed _ c.in-err-next-2.field-0.0 c.in-ok-object.ensures c.in-ok-next.ensures c.in-ok-kind.ensures
-    (here (word (codes "OWNER")) (a_user ∷ []) [] _ _ _ c.in-err-next-2.ensures))
+pub returns-in_err-next-2 : goal.returns-in_err-next-2
+returns-in_err-next-2 c =
+    exit _ (rest Object) (tail Object) _ _ _ c.from_residual-in_err-next-2.result c.from_residual-in_err-next-2.ensures.1
+    (typed _ c.in_err-next-2.field-0.0 c.in_ok-object.ensures c.in_ok-next.ensures c.in_ok-kind.ensures
+    (here (word (codes "OWNER")) (a_user ∷ []) [] _ _ _ c.in_err-next-2.ensures))
 
-pub returns-in-err-owner : goal.returns-in-err-owner
-returns-in-err-owner c =
-    exit _ (rest Object) (tail Object) _ _ _ c.from-residual-in-err-owner.result c.from-residual-in-err-owner.ensures.1
-    (typed _ c.in-err-owner.field-0.0 c.in-ok-object.ensures c.in-ok-next.ensures c.in-ok-kind.ensures
-    (on (word (codes "OWNER")) (a_user ∷ []) [] _ c.in-ok-next-2.ensures refl
-    (here a_user [] [] _ _ _ c.in-err-owner.ensures)))
+pub returns-in_err-owner : goal.returns-in_err-owner
+returns-in_err-owner c =
+    exit _ (rest Object) (tail Object) _ _ _ c.from_residual-in_err-owner.result c.from_residual-in_err-owner.ensures.1
+    (typed _ c.in_err-owner.field-0.0 c.in_ok-object.ensures c.in_ok-next.ensures c.in_ok-kind.ensures
+    (on (word (codes "OWNER")) (a_user ∷ []) [] _ c.in_ok-next-2.ensures refl
+    (here a_user [] [] _ _ _ c.in_err-owner.ensures)))
 
-pub returns-in-err-end : goal.returns-in-err-end
-returns-in-err-end c =
-    let u = c.in-ok-owner.ensures in
-    exit _ (rest Object) (tail Object) _ _ _ c.from-residual-in-err-end.result c.from-residual-in-err-end.ensures.1
-    (typed _ c.in-err-end.field-0.0 c.in-ok-object.ensures c.in-ok-next.ensures c.in-ok-kind.ensures
-    (on (word (codes "OWNER")) (a_user ∷ []) [] _ c.in-ok-next-2.ensures refl
-    (on a_user [] [] _ u.1 (c.in-ok-owner.owner, u.0, refl) (over _ _ _ _ c.in-err-end.ensures))))
+pub returns-in_err-end : goal.returns-in_err-end
+returns-in_err-end c =
+    let u = c.in_ok-owner.ensures in
+    exit _ (rest Object) (tail Object) _ _ _ c.from_residual-in_err-end.result c.from_residual-in_err-end.ensures.1
+    (typed _ c.in_err-end.field-0.0 c.in_ok-object.ensures c.in_ok-next.ensures c.in_ok-kind.ensures
+    (on (word (codes "OWNER")) (a_user ∷ []) [] _ c.in_ok-next-2.ensures refl
+    (on a_user [] [] _ u.1 (c.in_ok-owner.owner, u.0, refl) (over _ _ _ _ c.in_err-end.ensures))))
