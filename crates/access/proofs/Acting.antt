@@ -1,7 +1,6 @@
 -- A principal through the roles that it acts as.
 use Rattle.std.proofs.Common.{◌≡◌, ℕ, ◌+◌, ◌<◌, true, ◌⊎◌, sym, refl, subst, inl, inr, ⊎_elim, arith}
 use Rattle.std.proofs.lemmas.Bool.{cases_eq, lt-ltb}
-use Rattle.model.specs.Principals.{in_range}
 use Rattle.model.specs.States.{States, Lawful}
 use Rattle.model.specs.Joining.{Stronger}
 use Rattle.model.specs.Graphs.{RoleGraph, Chain, via, Reaches, Sound}

@@ -1,5 +1,5 @@
 -- Which states reach a principal for an object and a privilege, and which of them is its answer.
-use Rattle.std.specs.Prelude.{◌≡◌, ℕ, ◌<◌, Bool, true, ◌⊎◌}
+use Rattle.std.specs.Prelude.{◌≡◌, ℕ, ◌<◌, true, ◌⊎◌}
 use Rattle.model.specs.States.{States}
 use Rattle.model.specs.Graphs.{RoleGraph, Above}
 use Rattle.model.specs.Places.{place}
@@ -8,7 +8,6 @@ use Rattle.model.specs.declared.principal.Principal.{Principal}
 use Rattle.model.specs.declared.principal.Principal.TheVariants.{User, Role}
 use Rattle.model.specs.declared.privilege.Privilege.{Privilege}
 use Rattle.model.specs.declared.cell.Cell.{Cell}
-use Rattle.model.specs.declared.cell.Orientation.{Orientation}
 use Rattle.model.specs.declared.cell.Orientation.TheVariants.{Up, Down}
 use Rattle.access.specs.Masters.{Masters, Owns}
 

@@ -21,7 +21,7 @@ fn towards<S: Scale, T: Store<S>>(
     principal: Principal,
     orientation: Orientation,
 ) -> S
-    ensures { Strongest S.Scale.states (Towards (cells store.now) object privilege principal orientation) result }
+    ensures { Strongest S.Scale.states (Towards (T.cells store.now) object privilege principal orientation) result }
 {
     store.sound();
     store.strongest(object, privilege, principal, orientation)
@@ -34,7 +34,7 @@ fn own<S: Scale, T: Store<S>>(
     privilege: Privilege,
     principal: Principal,
 ) -> S
-    ensures { Strongest S.Scale.states (Assigned (cells store.now) object privilege principal) result }
+    ensures { Strongest S.Scale.states (Assigned (T.cells store.now) object privilege principal) result }
 {
     let up: S = towards(store, object, privilege, principal, Orientation::Up);
     let down = towards(store, object, privilege, principal, Orientation::Down);
@@ -44,7 +44,7 @@ fn own<S: Scale, T: Store<S>>(
 
 // Whether the principal is the role, or a user who holds it.
 fn acts_as<G: Graph>(graph: &G, principal: Principal, role: u8) -> bool
-    ensures { Decides result (ActsAs (meaning graph.now) principal role) }
+    ensures { Decides result (ActsAs (G.meaning graph.now) principal role) }
 {
     match principal {
         Principal::Role(own) => own == role,
@@ -54,7 +54,7 @@ fn acts_as<G: Graph>(graph: &G, principal: Principal, role: u8) -> bool
 
 // Whether the role is above one that the principal is or holds.
 fn is_under<G: Graph>(graph: &G, principal: Principal, role: u8) -> bool
-    ensures { Decides result (IsUnder (meaning graph.now) principal role) }
+    ensures { Decides result (IsUnder (G.meaning graph.now) principal role) }
 {
     for held in 0..ROLES {
         if acts_as(graph, principal, held) && graph.is_above(role, held) {
@@ -74,7 +74,7 @@ fn risen<S: Scale, T: Store<S>, G: Graph>(
     principal: Principal,
     role: u8,
 ) -> S
-    ensures { Strongest S.Scale.states (Rising (meaning graph.now) (cells store.now) object privilege principal role) result }
+    ensures { Strongest S.Scale.states (Rising (G.meaning graph.now) (T.cells store.now) object privilege principal role) result }
 {
     let state: S = towards(
         store,
@@ -102,7 +102,7 @@ fn sunken<S: Scale, T: Store<S>, G: Graph>(
     principal: Principal,
     role: u8,
 ) -> S
-    ensures { Strongest S.Scale.states (Sinking (meaning graph.now) (cells store.now) object privilege principal role) result }
+    ensures { Strongest S.Scale.states (Sinking (G.meaning graph.now) (T.cells store.now) object privilege principal role) result }
 {
     let state: S = towards(
         store,
@@ -130,7 +130,7 @@ fn inherited<S: Scale, T: Store<S>, G: Graph>(
     principal: Principal,
     role: u8,
 ) -> S
-    ensures { Strongest S.Scale.states (Inherited (meaning graph.now) (cells store.now) object privilege principal role) result }
+    ensures { Strongest S.Scale.states (Inherited (G.meaning graph.now) (T.cells store.now) object privilege principal role) result }
 {
     let up: S = risen(store, graph, object, privilege, principal, role);
     let down = sunken(store, graph, object, privilege, principal, role);
@@ -146,7 +146,7 @@ fn from_role<S: Scale, T: Store<S>, G: Graph>(
     principal: Principal,
     role: u8,
 ) -> S
-    ensures { Strongest S.Scale.states (From (meaning graph.now) (cells store.now) object privilege principal role) result }
+    ensures { Strongest S.Scale.states (From (G.meaning graph.now) (T.cells store.now) object privilege principal role) result }
 {
     if acts_as(graph, principal, role) {
         own(store, object, privilege, Principal::Role(role))
@@ -174,7 +174,7 @@ fn apart_from_roles<S: Scale, T: Store<S>>(
     privilege: Privilege,
     principal: Principal,
 ) -> S
-    ensures { Strongest S.Scale.states (Apart S.Scale.states (listed directory.now.entries) (cells store.now) object privilege principal) result }
+    ensures { Strongest S.Scale.states (Apart S.Scale.states (listed directory.now.entries) (T.cells store.now) object privilege principal) result }
 {
     match principal {
         Principal::Role(_) => S::unassign(),
@@ -195,7 +195,7 @@ fn with_role<S: Scale, T: Store<S>, G: Graph>(
     role: u8,
     best: S,
 ) -> S
-    ensures { Added S.Scale.states (From (meaning graph.now) (cells store.now) object privilege principal role) best result }
+    ensures { Added S.Scale.states (From (G.meaning graph.now) (T.cells store.now) object privilege principal role) best result }
 {
     let state = from_role(store, graph, object, privilege, principal, role);
     best.join(state)
@@ -211,9 +211,9 @@ pub fn answer<S: Scale, T: Store<S>, G: Graph>(
     privilege: Privilege,
     principal: Principal,
 ) -> S
-    ensures answer { IsAnswer S.Scale.states (meaning graph.now) (listed directory.now.entries) (cells store.now) object privilege principal result }
-    ensures only { (s : S) → IsAnswer S.Scale.states (meaning graph.now) (listed directory.now.entries) (cells store.now) object privilege principal s → s ≡ result }
-    ensures between { BetweenRoles S.Scale.states (meaning graph.now) (listed directory.now.entries) (cells store.now) }
+    ensures answer { IsAnswer S.Scale.states (G.meaning graph.now) (listed directory.now.entries) (T.cells store.now) object privilege principal result }
+    ensures only { (s : S) → IsAnswer S.Scale.states (G.meaning graph.now) (listed directory.now.entries) (T.cells store.now) object privilege principal s → s ≡ result }
+    ensures between { BetweenRoles S.Scale.states (G.meaning graph.now) (listed directory.now.entries) (T.cells store.now) }
 {
     store.sound();
     let mut best: S = apart_from_roles(directory, store, object, privilege, principal);

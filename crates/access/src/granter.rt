@@ -17,7 +17,7 @@ fn is_optioned<S: Scale, T: Store<S>>(
     privilege: Privilege,
     principal: Principal,
 ) -> bool
-    ensures { Decides result (Optioned (cells store.now) object privilege principal) }
+    ensures { Decides result (Optioned (T.cells store.now) object privilege principal) }
 {
     store.sound();
     store.has_option(object, privilege, principal)
@@ -31,7 +31,7 @@ fn gives_as_itself<S: Scale, T: Store<S>>(
     object: u8,
     privilege: Privilege,
 ) -> bool
-    ensures { Decides result (InOwnRight (listed directory.now.entries) (cells store.now) user object privilege) }
+    ensures { Decides result (InOwnRight (listed directory.now.entries) (T.cells store.now) user object privilege) }
 {
     if directory.is_owner(user, object) {
         return true;
@@ -48,7 +48,7 @@ fn gives_through<S: Scale, T: Store<S>, G: Graph>(
     privilege: Privilege,
     role: u8,
 ) -> bool
-    ensures { Decides result (Through (meaning graph.now) (cells store.now) user object privilege role) }
+    ensures { Decides result (Through (G.meaning graph.now) (T.cells store.now) user object privilege role) }
 {
     if !is_optioned(store, object, privilege, Principal::Role(role)) {
         return false;
@@ -64,7 +64,7 @@ fn lowest_role<S: Scale, T: Store<S>, G: Graph>(
     object: u8,
     privilege: Privilege,
 ) -> Option<u8>
-    ensures { MatchOption result ((k : ℕ) → Through (meaning graph.now) (cells store.now) user object privilege k → ⊥) (λ k. Through (meaning graph.now) (cells store.now) user object privilege k × ((j : ℕ) → j < k → Through (meaning graph.now) (cells store.now) user object privilege j → ⊥)) }
+    ensures { MatchOption result ((k : ℕ) → Through (G.meaning graph.now) (T.cells store.now) user object privilege k → ⊥) (λ k. Through (G.meaning graph.now) (T.cells store.now) user object privilege k × ((j : ℕ) → j < k → Through (G.meaning graph.now) (T.cells store.now) user object privilege j → ⊥)) }
 {
     for role in 0..ROLES {
         if gives_through(store, graph, user, object, privilege, role) {
@@ -84,8 +84,8 @@ pub fn granter<S: Scale, T: Store<S>, G: Graph>(
     object: u8,
     privilege: Privilege,
 ) -> Option<Principal>
-    ensures answer { GranterIs (meaning graph.now) (listed directory.now.entries) (cells store.now) user object privilege result }
-    ensures only { (q : Option Principal) → GranterIs (meaning graph.now) (listed directory.now.entries) (cells store.now) user object privilege q → q ≡ result }
+    ensures answer { GranterIs (G.meaning graph.now) (listed directory.now.entries) (T.cells store.now) user object privilege result }
+    ensures only { (q : Option Principal) → GranterIs (G.meaning graph.now) (listed directory.now.entries) (T.cells store.now) user object privilege q → q ≡ result }
 {
     if gives_as_itself(directory, store, user, object, privilege) {
         return Some(Principal::User(user));

@@ -1,22 +1,18 @@
 -- Cells, levels, masters and links are what the records set last.
-use Rattle.std.proofs.Common.{◌≡◌, ℕ, Bool, true, false, cond, not, ◌&&◌, ◌||◌, eqb, ◌⊎◌, List, [], ◌∷◌, ◌++◌, Some, None, Ok, Err, Option, sym, refl, ap, ◌∙◌, subst, inl, inr, eq-eqb, ne_eqb}
+use Rattle.std.proofs.Common.{◌≡◌, ℕ, Bool, ◌⊎◌, List, [], ◌∷◌, ◌++◌, Some, None, Ok, Err, Option, sym, refl, ap, ◌∙◌, subst, inl, inr}
 use mathlib.Core.List.Memᴰ
 use mathlib.Core.List.{Memᴰ}
-use Rattle.std.proofs.lemmas.Bool.{cases_eq, cases_Bool, cond-true, cond-false, and_parts, eqb-true}
+use Rattle.std.proofs.lemmas.Bool.{cond-true, cond-false}
 use Rattle.model.specs.States.{States, Lawful}
-use Rattle.model.specs.Graphs.{same_link}
 use Rattle.model.specs.Places.{place, same_place}
-use Rattle.model.specs.Stores.{put}
-use Rattle.model.specs.declared.principal.Principal.{Principal}
 use Rattle.model.specs.declared.cell.Cell.{Cell}
 use Rattle.model.specs.declared.place.Place.{Place}
-use Rattle.model.proofs.Numbering.{principal_same, same_principals, cases_place, true_same, differ_place}
-use Rattle.access.specs.declared.master.Master.{Master}
+use Rattle.model.proofs.Numbering.{cases_place, true_same, differ_place}
 use Rattle.standing.specs.declared.report.Report.TheVariants.{Done, DoneBy, State}
 use Rattle.history.specs.World.{World, new_world}
 use Rattle.history.specs.Deeds.{Deed, unsaid, make_role, make_object, add_link, cut_link, assign, check, Asks, assigning}
 use Rattle.history.specs.Steps.{Answer, Does, Step, Turn, Run}
-use Rattle.history.specs.Lasting.{NoneSets, SetLast, LastSet, Assigned, Performed, GivesLevel, GivesMaster, SetsLink, LastAssigned, Registered}
+use Rattle.history.specs.Lasting.{NoneSets, SetLast, LastSet, Assigned, LastAssigned}
 use Rattle.history.proofs.Runs.{differ, asks_one}
 
 module _ {S V : Type 0} (sets : Turn S → V → Type 0) where

@@ -1,18 +1,17 @@
 -- Pairs in use, where one cell changes.
-use Rattle.std.proofs.Common.{◌≡◌, ℕ, zero, suc, ◌+◌, ◌*◌, ◌/◌, ◌%◌, ◌<◌, ◌≤◌, Bool, true, false, ◌||◌, ◌⊎◌, sym, refl, ap, ◌∙◌, subst, inl, inr, ⊎_elim, arith, ltb-true, lt-ltb}
+use Rattle.std.proofs.Common.{◌≡◌, ℕ, zero, suc, ◌+◌, ◌*◌, ◌/◌, ◌%◌, ◌<◌, ◌≤◌, Bool, true, false, ◌⊎◌, sym, refl, ap, ◌∙◌, subst, inl, inr, ⊎_elim, arith, ltb-true, lt-ltb}
 use borrow.Author.Tests.{both_ways}
-use Rattle.std.proofs.lemmas.Bool.{cases_Bool, cases_eq, or_cases, or_left, or_right, cond-true, cond-false}
-use Rattle.std.proofs.lemmas.Nat.{div-add-mod', mod_below, div_below}
-use Rattle.model.specs.States.{States, Lawful}
-use Rattle.model.specs.Joining.{Joining, JoinLaws, joining}
+use Rattle.std.proofs.lemmas.Bool.{cases_eq, or_cases, or_left, or_right, cond-true, cond-false}
+use Rattle.model.specs.States.{States}
+use Rattle.model.specs.Joining.{JoinLaws, joining}
 use Rattle.model.specs.Principals.{in_range}
-use Rattle.model.specs.Folds.{one_if, count_below, any_below}
+use Rattle.model.specs.Folds.{one_if, count_below}
 use Rattle.model.specs.Places.{place, same_place, principal_at, number, privilege_at}
 use Rattle.model.specs.Stores.{Cells, put, assigned, in_use, pairs, has_room, no_cells}
 use Rattle.model.specs.declared.principal.Principal.{Principal}
 use Rattle.model.specs.declared.cell.Cell.{Cell}
 use Rattle.model.specs.declared.place.Place.{Place}
-use Rattle.model.proofs.Counting.{count_same, count_none, count_sub, any_none, any_some, any_witness}
+use Rattle.model.proofs.Counting.{count_none, count_sub, any_some, any_witness}
 use Rattle.model.proofs.Numbering.{number_in, number_at, at_number, cases_place, true_same, differ_place}
 use Rattle.model.proofs.Outside.{unassigned_none}
 

@@ -1,5 +1,5 @@
 -- Levels, masters and links are those of the accepted ROLE, OBJECT, LINK and CUT records.
-use Rattle.std.proofs.Common.{◌≡◌, ℕ, Bool, true, false, cond, not, ◌&&◌, ◌||◌, eqb, ◌⊎◌, List, Some, None, Ok, Err, Option, sym, refl, ap, ◌∙◌, subst, inl, inr, eq-eqb, ne_eqb, eqb-true}
+use Rattle.std.proofs.Common.{◌≡◌, ℕ, Bool, true, false, not, ◌&&◌, ◌||◌, eqb, ◌⊎◌, List, Some, Ok, Option, refl, ap, ◌∙◌, subst, inl, inr, eq-eqb, ne_eqb, eqb-true}
 use Rattle.std.proofs.lemmas.Bool.{cases_eq, cases_Bool, cond-true, cond-false, and_parts, and_from, both_ways}
 use Rattle.model.specs.States.{States, Lawful}
 use Rattle.model.specs.Graphs.{same_link}
@@ -10,7 +10,7 @@ use Rattle.standing.specs.declared.report.Report.TheVariants.{Done}
 use Rattle.history.specs.World.{World, new_world}
 use Rattle.history.specs.Deeds.{Deed, unsaid, make_role, make_object, add_link, cut_link, assign, check, Asks}
 use Rattle.history.specs.Steps.{Answer, Effect, Does, Turn, Run}
-use Rattle.history.specs.Lasting.{Performed, GivesLevel, GivesMaster, SetsLink, LastSet, Registered}
+use Rattle.history.specs.Lasting.{Performed, GivesLevel, GivesMaster, SetsLink, Registered}
 use Rattle.history.proofs.Runs.{differ, asks_one}
 use Rattle.history.proofs.LastSets.{run_sets}
 

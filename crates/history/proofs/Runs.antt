@@ -1,5 +1,5 @@
 -- Steps and runs: each record has one answer, and one world after it.
-use Rattle.std.proofs.Common.{◌≡◌, ℕ, Bool, true, false, ◌⊎◌, List, [], ◌∷◌, ◌++◌, map, Some, None, Ok, Err, Option, Result, sym, refl, ap, ◌∙◌, subst, inl, inr, arith}
+use Rattle.std.proofs.Common.{◌≡◌, ℕ, true, ◌⊎◌, List, [], ◌∷◌, ◌++◌, Some, Ok, Err, Option, Result, sym, refl, ap, ◌∙◌, subst, inl, inr, arith}
 use Rattle.model.specs.States.{States, Lawful}
 use Rattle.model.specs.Places.{place}
 use Rattle.model.specs.Stores.{put}
@@ -14,10 +14,7 @@ use Rattle.reading.specs.Questions.{FirstNo}
 use Rattle.reading.specs.Records.{Frame}
 use Rattle.reading.specs.Cut.{Entry}
 use Rattle.reading.specs.declared.fault.ReadingFault.{ReadingFault}
-use Rattle.reading.specs.declared.fault.ReadingFault.TheVariants.{Header, Mark, Issuer, Length, Body}
 use Rattle.reading.proofs.Asking.{one_first, no_first}
-use Rattle.grammar.specs.declared.sentence.Sentence.{Sentence}
-use Rattle.wording.specs.declared.fault.WordingFault.{WordingFault}
 use Rattle.wording.specs.declared.fault.WordingFault.TheVariants.{Reading}
 use Rattle.wording.proofs.Laws.{parsed}
 use Rattle.standing.specs.Faults.{number_of}
@@ -27,10 +24,10 @@ use Rattle.standing.specs.declared.report.Report.TheVariants.{DoneBy, State}
 use Rattle.history.specs.World.{World, with_cells}
 use Rattle.history.specs.Deeds.{Deed, unsaid, make_role, make_object, add_link, cut_link, assign, check, deed_or_fault, Asks}
 use Rattle.history.specs.Asking.{questions}
-use Rattle.history.specs.Steps.{Answer, Assigns, Tells, Effect, Refuses, Accepts, Does, Step, Turn, Run}
+use Rattle.history.specs.Steps.{Answer, Effect, Does, Step, Turn, Run}
 use Rattle.history.specs.Withdrawing.{unplaced, content, but_offset, contents, answers_but_offsets}
 use Rattle.history.specs.Laws.{entries, OneRun, Unchanged}
-use Rattle.history.proofs.Faults.{one_fault, lower_numbers}
+use Rattle.history.proofs.Faults.{one_fault}
 
 -- two constructors are never equal
 pub differ : {P : Type 0} → ◌≡◌ {A = ℕ} 0 1 → P

@@ -1,5 +1,5 @@
 -- What every history keeps: a sound graph, owners in range, and allowed cells in range, in sixteen pairs.
-use Rattle.std.proofs.Common.{◌≡◌, ℕ, ◌<◌, ◌≤◌, Bool, true, false, cond, not, ◌&&◌, eqb, ltb, ◌⊎◌, List, [], ◌∷◌, IfSome, Some, None, Ok, Err, Decides, Option, Result, sym, refl, ap, ◌∙◌, subst, inl, inr, arith, ltb-true, lt-ltb, eq-eqb, ne_eqb}
+use Rattle.std.proofs.Common.{◌≡◌, ℕ, ◌<◌, ◌≤◌, Bool, true, false, ◌&&◌, eqb, ◌⊎◌, List, [], ◌∷◌, IfSome, Some, None, Ok, Err, Decides, Option, Result, sym, refl, ap, ◌∙◌, subst, inl, inr, arith, lt-ltb, eq-eqb, ne_eqb}
 use borrow.Author.Tests.{both_ways, clash}
 use Rattle.std.proofs.lemmas.Bool.{cases_Bool, cases_eq, and_from, and_parts, cond-true, cond-false, not_from_false}
 use Rattle.model.specs.States.{States, Lawful}
@@ -11,7 +11,6 @@ use Rattle.model.specs.Graphs.{vacant, takes_level, takes_link, new_graph}
 use Rattle.model.specs.Places.{place, place_in_range}
 use Rattle.model.specs.Stores as stores
 use Rattle.model.specs.Stores.{Cells, put}
-use Rattle.model.specs.LinkCount.{link_count}
 use Rattle.model.specs.declared.principal.Principal.{Principal}
 use Rattle.model.specs.declared.principal.Principal.TheVariants.{User, Role}
 use Rattle.model.specs.declared.privilege.Privilege.{Privilege}
@@ -28,7 +27,6 @@ use Rattle.model.proofs.SoundGraphs.{sound_with_level, sound_with_link, sound_wi
 use Rattle.access.specs.Masters.{Owns}
 use Rattle.access.specs.Giving.{Optioned, GivesAs}
 use Rattle.access.specs.declared.master.Master.{Master}
-use Rattle.reading.specs.Questions.{AllYes}
 use Rattle.reading.specs.Records.{Frame}
 use Rattle.reading.specs.declared.fault.ReadingFault.{ReadingFault}
 use Rattle.words.specs.Words.{index}
@@ -40,9 +38,9 @@ use Rattle.grammar.specs.declared.sentence.Sentence.TheVariants as sentence
 use Rattle.wording.specs.Answers.{Answers}
 use Rattle.wording.specs.Ranges.{range}
 use Rattle.wording.specs.declared.fault.WordingFault.{WordingFault}
-use Rattle.history.specs.World.{World, new_world, with_cells}
+use Rattle.history.specs.World.{World, new_world}
 use Rattle.history.specs.Deeds.{Assignment, Deed, unsaid, make_role, make_object, add_link, cut_link, assign, check, restricting, deed, deed_or_fault, Asks}
-use Rattle.history.specs.Asking.{Granter, HasRoom, questions}
+use Rattle.history.specs.Asking.{HasRoom}
 use Rattle.history.specs.Steps.{Answer, Assigns, Does, Step, Turn, Run}
 use Rattle.history.proofs.Runs.{differ}
 use Rattle.history.proofs.Pairs.{put_here, put_else, pairs_put, no_pairs}

@@ -1,5 +1,5 @@
 -- An assignment that was withdrawn leaves no trace in later answers.
-use Rattle.std.proofs.Common.{◌≡◌, ℕ, ◌<◌, ◌≤◌, Bool, true, false, ◌⊎◌, List, [], ◌∷◌, ◌++◌, Some, None, Ok, Err, Option, Result, sym, refl, ap, ◌∙◌, subst, inl, inr, arith}
+use Rattle.std.proofs.Common.{◌≡◌, ℕ, ◌<◌, ◌≤◌, Bool, true, false, ◌⊎◌, List, [], ◌∷◌, ◌++◌, Some, Ok, Err, Option, sym, refl, ap, ◌∙◌, subst, inl, inr, arith}
 use mathlib.Core.Path.{fun_ext}
 use mathlib.Core.List.{Memᴰ}
 use borrow.Author.Tests.{both_ways}
@@ -20,9 +20,6 @@ use Rattle.model.proofs.Numbering.{cases_place}
 use Rattle.model.proofs.Outside.{unassigned_none}
 use Rattle.access.specs.Giving.{Optioned, InOwnRight, GivesAs}
 use Rattle.reading.specs.Questions.{Question, ask, AllYes, FirstNo}
-use Rattle.reading.specs.Records.{Frame}
-use Rattle.reading.specs.Cut.{Entry}
-use Rattle.reading.specs.declared.fault.ReadingFault.{ReadingFault}
 use Rattle.reading.proofs.Asking.{no_first}
 use Rattle.grammar.specs.declared.sentence.Sentence.TheVariants.{Revoke}
 use Rattle.standing.specs.Faults.{number_of}
@@ -33,7 +30,7 @@ use Rattle.history.specs.Deeds.{Assignment, Deed, unsaid, make_role, make_object
 use Rattle.history.specs.Asking.{Exists, Made, Defined, HasState, HasGranter, HasRoom, questions}
 use Rattle.history.specs.Steps.{Answer, Effect, Refuses, Does, Step, Turn, Run}
 use Rattle.history.specs.Lasting.{NoneSets, Assigned}
-use Rattle.history.specs.Withdrawing.{content, contents, Revoked, Withdrawal, LeavesNoTrace}
+use Rattle.history.specs.Withdrawing.{content, contents, Revoked, LeavesNoTrace}
 use Rattle.history.proofs.Faults.{one_fault}
 use Rattle.history.proofs.Runs.{differ, asks_one, granter_one, BothDamaged, same_content, damaged_step, run_parts, run_alike}
 use Rattle.history.proofs.LastSets.{last_one, assigned_one, AssignsAt, assigned_to, assigned_from, last_assigned}

@@ -1,5 +1,5 @@
 -- The questions that are put to a record, in their order, with their numbers.
-use Rattle.std.specs.Prelude.{◌≡◌, ℕ, ◌<◌, true, false, List, [], ◌∷◌, Some, None, Option}
+use Rattle.std.specs.Prelude.{◌≡◌, ℕ, ◌<◌, true, false, List, [], ◌∷◌, Some, None}
 use Rattle.model.specs.States.{States}
 use Rattle.model.specs.Joining.{joining}
 use Rattle.model.specs.Privileges.{defines}
@@ -8,7 +8,7 @@ use Rattle.model.specs.Graphs.{RoleGraph, level_of, falls}
 use Rattle.model.specs.Places.{place}
 use Rattle.model.specs.Stores.{has_room}
 use Rattle.model.specs.declared.principal.Principal.{Principal}
-use Rattle.model.specs.declared.principal.Principal.TheVariants.{User, Role}
+use Rattle.model.specs.declared.principal.Principal.TheVariants.{Role}
 use Rattle.model.specs.declared.privilege.Privilege.{Privilege}
 use Rattle.model.specs.declared.cell.Cell.{Cell}
 use Rattle.access.specs.Masters.{Masters}

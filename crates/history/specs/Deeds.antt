@@ -1,5 +1,5 @@
 -- What a record asks for.
-use Rattle.std.specs.Prelude.{◌≡◌, ℕ, Bool, true, false, Some, Ok, Err, Option, Result}
+use Rattle.std.specs.Prelude.{◌≡◌, ℕ, false, Some, Ok, Err, Option, Result}
 use Rattle.model.specs.States.{States}
 use Rattle.model.specs.Allowed.{set_by, unassigned}
 use Rattle.model.specs.declared.principal.Principal.{Principal}

@@ -9,7 +9,7 @@ use Rattle.access.proofs.answer.answer.Goals as goal
 pub loop-role-preserved : goal.loop-role-preserved
 loop-role-preserved g c =
     so_far_more g.S.Scale.states g.met.S.Scale.lawful (g.G.Graph.meaning c.args.graph.now) (listed c.args.directory.now.entries) (g.T.Store.cells c.args.store.now) c.args.object c.args.privilege c.args.principal c.loop-role.role _ _
-    c.loop-role.invariant c.with-role-best.ensures
+    c.loop-role.invariant c.with_role-best.ensures
 
 pub returns : goal.returns
 returns g c =

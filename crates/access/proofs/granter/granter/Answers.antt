@@ -6,13 +6,13 @@ use Rattle.access.specs.Giving.{GivesAs}
 use Rattle.access.proofs.OneGranter.{one_granter}
 use Rattle.access.proofs.granter.granter.Goals as goal
 
-pub returns-then-gives-as-itself : goal.returns-then-gives-as-itself
-returns-then-gives-as-itself g c =
+pub returns-then-gives_as_itself : goal.returns-then-gives_as_itself
+returns-then-gives_as_itself g c =
     let graph = g.G.Graph.meaning c.args.graph.now in
     let masters = listed c.args.directory.now.entries in
     let cells = g.T.Store.cells c.args.store.now in
     let gives : GivesAs graph masters cells c.args.user c.args.object c.args.privilege (User c.args.user) =
-    inl (c.if-gives-as-itself.ensures.0 refl, refl) in
+    inl (c.if-gives_as_itself.ensures.0 refl, refl) in
     record { answer = gives; only = λ q h. one_granter graph masters cells c.args.user c.args.object c.args.privilege q (Some (User c.args.user)) h gives }
 
 pub returns : goal.returns
@@ -20,13 +20,13 @@ returns g c =
     let graph = g.G.Graph.meaning c.args.graph.now in
     let masters = listed c.args.directory.now.entries in
     let cells = g.T.Store.cells c.args.store.now in
-    let role = c.in-ok-role.role in
+    let role = c.in_ok-role.role in
     let gives : GivesAs graph masters cells c.args.user c.args.object c.args.privilege (Role role) =
     inr (record {
-      not_own = λ h. both_ways false refl (c.if-gives-as-itself.ensures.1 h);
+      not_own = λ h. both_ways false refl (c.if-gives_as_itself.ensures.1 h);
       role = role;
       is = refl;
-      through = c.in-ok-role.ensures.0;
-      lowest = c.in-ok-role.ensures.1;
+      through = c.in_ok-role.ensures.0;
+      lowest = c.in_ok-role.ensures.1;
     }) in
     record { answer = gives; only = λ q h. one_granter graph masters cells c.args.user c.args.object c.args.privilege q (Some (Role role)) h gives }
