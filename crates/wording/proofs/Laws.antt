@@ -6,7 +6,7 @@ use Rattle.words.proofs.Joins.{join_words}
 use Rattle.wording.specs.declared.fault.WordingFault.{WordingFault}
 use Rattle.wording.specs.declared.fault.WordingFault.TheVariants as fault
 use Rattle.grammar.specs.declared.sentence.Sentence.{Sentence}
-use Rattle.grammar.specs.Sentences.{Slot, Within, written, Spells, Front, Whole, Starts, Says, Stops, NoSentence, short, long, rest, tail, spell, offset}
+use Rattle.grammar.specs.Sentences.{Slot, Within, written, Spells, Front, Whole, Starts, Says, Stops, NoSentence, short, long, tail, spell, offset}
 use Rattle.wording.specs.Ranges.{range, Fine, TooLarge, Exceeds}
 use Rattle.wording.specs.Answers.{Answers, InRange, Laws, Parsed}
 use Rattle.wording.proofs.Spelling.{distinct, says, said}
