@@ -1,15 +1,15 @@
 -- Composing a file line by line.
-use Rattle.std.proofs.Common.{◌≡◌, ℕ, ◌+◌, ◌-◌, ◌<◌, ◌≤◌, true, false, cond, ◌⊎◌, List, [], ◌∷◌, ◌++◌, map, length, take, drop, None, sym, refl, ap, ◌∙◌, subst, inl, inr, append_assoc, append-nil, arith, length-append}
+use Rattle.std.proofs.Common.{◌≡◌, ℕ, ◌+◌, ◌≤◌, true, false, cond, List, [], ◌∷◌, ◌++◌, map, length, drop, None, sym, refl, ap, ◌∙◌, subst, inl, inr, append_assoc, append-nil, arith, length-append}
 use Rattle.std.proofs.ByRecursion.{All-push, All-weaker}
 use Rattle.std.proofs.lemmas.List.{drop_all, flat_map_more, map_push}
-use Rattle.std.specs.List.{flat_map, AllByRecursion as All}
+use Rattle.std.specs.List.{AllByRecursion}
 use Rattle.reading.specs.Records.{Frame, after}
 use Rattle.reading.specs.Cut.{Cut, Sound, bytes_of, frames, damage, written, entries}
 use Rattle.reading.proofs.Covering.{reading_laws}
 use Rattle.notation.specs.Adding.{Added, Taken, NotTaken}
 use Rattle.notation.specs.declared.bodies.Bodies.{Bodies}
 use Rattle.notation.specs.Lines.{lines, unremarked, skipped, kept, statements}
-use Rattle.notation.specs.Results.{States, Listed, Composed, Unstated}
+use Rattle.notation.specs.Results.{Listed, Composed, Unstated}
 use Rattle.notation.specs.Shown.{line, entries_of, Statable, Passes}
 use Rattle.notation.proofs.ListLaws.{listed_lines}
 use Rattle.notation.proofs.Splitting.{kept_more}
@@ -23,8 +23,8 @@ pub record Going (bodies : Bodies) (text : List ℕ) (at number : ℕ) (out : Li
   pub count : number ≡ length done
   pub few : number ≤ at
   pub stated : kept (map unremarked done) ≡ map line records
-  pub statable : All Statable records
-  pub passing : All (λ f. Passes bodies f.body) records
+  pub statable : AllByRecursion Statable records
+  pub passing : AllByRecursion (λ f. Passes bodies f.body) records
   pub bytes : out ≡ written records
 
 pub start : (bodies : Bodies) (text out : List ℕ) → out ≡ [] → Going bodies text 0 0 out
@@ -40,12 +40,12 @@ no_damage at [] = refl
 no_damage at (f ∷ fs) = no_damage (after at f) fs
 
 -- what was written of sound records is listed as their lines
-listed_again : (out : List ℕ) (fs : List Frame) → All Sound fs → Cut out 0 (entries 0 fs) → (again : List ℕ) → Listed out again → map unremarked (lines again) ≡ map line fs
+listed_again : (out : List ℕ) (fs : List Frame) → AllByRecursion Sound fs → Cut out 0 (entries 0 fs) → (again : List ℕ) → Listed out again → map unremarked (lines again) ≡ map line fs
 listed_again out fs s c again h =
     let one = reading_laws.one_way out in
     let same : entries_of h.found ≡ entries 0 fs = one.1.1 (entries_of h.found) h.cut ∙ sym (one.1.1 (entries 0 fs) c) in
     let whole : frames (entries_of h.found) ≡ fs = ap frames same ∙ frames_entries 0 fs in
-    ap (λ t. map unremarked (lines t)) h.shows ∙ listed_lines h.found h.remarked (ap damage same ∙ no_damage 0 fs) (subst (All Sound) (sym whole) s) ∙ ap (map line) whole
+    ap (λ t. map unremarked (lines t)) h.shows ∙ listed_lines h.found h.remarked (ap damage same ∙ no_damage 0 fs) (subst (AllByRecursion Sound) (sym whole) s) ∙ ap (map line) whole
 
 module _ (bodies : Bodies) (text : List ℕ) (at number : ℕ) (out : List ℕ) (g : Going bodies text at number out) where
   module _ (l : List ℕ) (end : ℕ) (first : lines (drop at text) ≡ l ∷ lines (drop (end + 1) text)) (low : at ≤ end) where
@@ -119,7 +119,7 @@ module _ (bodies : Bodies) (text : List ℕ) (at number : ℕ) (out : List ℕ) 
   finish l =
       let all : lines text ≡ g.done = g.splits ∙ ap (λ t. g.done ++ lines t) (drop_all at text l) ∙ append-nil g.done in
       let says : statements text ≡ map line g.records = ap (λ ls. kept (map unremarked ls)) all ∙ g.stated in
-      let sound : All Sound g.records = All-weaker Statable Sound (λ f s. s.sound) g.records g.statable in
+      let sound : AllByRecursion Sound g.records = All-weaker Statable Sound (λ f s. s.sound) g.records g.statable in
       let cut : Cut out 0 (entries 0 g.records) = subst (λ bs. Cut bs 0 (entries 0 g.records)) (sym g.bytes) (reading_laws.cuts_back g.records sound) in
       record {
         records = g.records;

@@ -1,17 +1,17 @@
 -- Listing an input record by record.
-use Rattle.std.proofs.Common.{◌≡◌, ℕ, ◌+◌, ◌<◌, ◌≤◌, List, [], ◌∷◌, ◌++◌, map, length, Some, None, Ok, Err, Option, Result, sym, refl, ap, ◌∙◌, subst, append_assoc, append-nil, arith}
+use Rattle.std.proofs.Common.{◌≡◌, ℕ, ◌≤◌, List, [], ◌∷◌, ◌++◌, map, length, None, Ok, Err, Option, Result, sym, refl, ap, ◌∙◌, subst, append_assoc, append-nil, arith}
 use Rattle.std.proofs.ByRecursion.{All-push}
 use Rattle.std.proofs.lemmas.List.{flat_map_more, map_push}
 use Rattle.std.proofs.lemmas.Option.{MatchOption-at_none}
-use Rattle.std.specs.List.{flat_map, AllByRecursion as All}
+use Rattle.std.specs.List.{AllByRecursion}
 use Rattle.reading.specs.Faults.{number_of, place_of}
 use Rattle.reading.specs.Records.{Frame, Stands, Refused, after}
 use Rattle.reading.specs.Cut.{Entry, Cut, with_record, frames, or_fault, damage, Sound, bytes_of, written}
 use Rattle.reading.specs.declared.fault.ReadingFault.{ReadingFault}
 use Rattle.reading.proofs.Covering.{reading_laws}
 use Rattle.reading.proofs.Cuts.{ends_within}
-use Rattle.notation.specs.Lines.{lines, unremarked, kept, statements}
-use Rattle.notation.specs.Results.{States, Listed}
+use Rattle.notation.specs.Lines.{lines, unremarked, kept}
+use Rattle.notation.specs.Results.{Listed}
 use Rattle.notation.specs.Shown.{line, told, ended, Item, RemarkOn, Remarked, RightlyRemarked, shown_entry, listed, entries_of, Byte, Statable}
 use Rattle.notation.proofs.Splitting.{lines_feed}
 use Rattle.notation.proofs.Visible.{Remark, remark_shape, line_visible, before_remark, one_line}
@@ -22,8 +22,8 @@ kept_lines [] = refl
 kept_lines (f ∷ fs) = ap (λ ls. line f ∷ ls) (kept_lines fs)
 
 -- one entry, its remark, and the lines of the rest
-entry_lines : (w : Result Frame ReadingFault) (m : List ℕ) (d : Option ReadingFault) (fs : List Frame) (rest : List ℕ) → Remarked w m → or_fault w d ≡ None → All Sound (with_record w fs)
-    → (d ≡ None → All Sound fs → map unremarked (lines rest) ≡ map line fs)
+entry_lines : (w : Result Frame ReadingFault) (m : List ℕ) (d : Option ReadingFault) (fs : List Frame) (rest : List ℕ) → Remarked w m → or_fault w d ≡ None → AllByRecursion Sound (with_record w fs)
+    → (d ≡ None → AllByRecursion Sound fs → map unremarked (lines rest) ≡ map line fs)
     → map unremarked (lines (shown_entry w m ++ rest)) ≡ map line (with_record w fs)
 entry_lines (Ok f) m d fs rest r n s tail =
     let v = line_visible f s.0 in
@@ -34,24 +34,24 @@ entry_lines (Ok f) m d fs rest r n s tail =
 entry_lines (Err k) m d fs rest r n s tail = absurd (let z : ◌≡◌ {A = ℕ} 0 1 = cc in omega arith)
 
 -- without a fault, the lines of a listing are those of its records, but for remarks
-pub listed_lines : (xs : List Item) → All RightlyRemarked xs → damage (entries_of xs) ≡ None → All Sound (frames (entries_of xs))
+pub listed_lines : (xs : List Item) → AllByRecursion RightlyRemarked xs → damage (entries_of xs) ≡ None → AllByRecursion Sound (frames (entries_of xs))
     → map unremarked (lines (listed xs)) ≡ map line (frames (entries_of xs))
 listed_lines [] r n s = refl
 listed_lines (x ∷ xs) r n s =
     entry_lines x.entry.what x.remark (damage (entries_of xs)) (frames (entries_of xs)) (listed xs) r.0 n s (λ n' s'. listed_lines xs r.1 n' s')
 
-halves : (P : ℕ → Type 0) (xs ys : List ℕ) → All P (xs ++ ys) → All P xs × All P ys
+halves : (P : ℕ → Type 0) (xs ys : List ℕ) → AllByRecursion P (xs ++ ys) → AllByRecursion P xs × AllByRecursion P ys
 halves P [] ys h = (tt, h)
 halves P (x ∷ xs) ys h = let r = halves P xs ys h.1 in ((h.0, r.0), r.1)
 
 -- the records of an input of bytes have bytes in their bodies
-statable : (fs : List Frame) → All Sound fs → All Byte (written fs) → All Statable fs
+statable : (fs : List Frame) → AllByRecursion Sound fs → AllByRecursion Byte (written fs) → AllByRecursion Statable fs
 statable [] s b = tt
 statable (f ∷ fs) s b =
     let h = halves Byte (bytes_of f) (written fs) b in
     (record { sound = s.0; bytes = h.0.1.1.1.1 }, statable fs s.1 h.1)
 
-done_listed : (input : List ℕ) (xs : List Item) (text : List ℕ) → Cut input 0 (entries_of xs) → All RightlyRemarked xs → text ≡ listed xs → Listed input text
+done_listed : (input : List ℕ) (xs : List Item) (text : List ℕ) → Cut input 0 (entries_of xs) → AllByRecursion RightlyRemarked xs → text ≡ listed xs → Listed input text
 done_listed input xs text c r e =
     let es = entries_of xs in
     let h = reading_laws.covers input es c in
@@ -64,7 +64,7 @@ done_listed input xs text c r e =
           (let none : h.rest ≡ [] = MatchOption-at_none _ _ n h.ends in
           let all : written (frames es) ≡ input = sym (h.whole ∙ ap (λ t. written (frames es) ++ t) none ∙ append-nil (written (frames es))) in
           let says : map unremarked (lines text) ≡ map line (frames es) = ap (λ t. map unremarked (lines t)) e ∙ listed_lines xs r n h.sound in
-          (record { stated = ap kept says ∙ kept_lines (frames es); statable = statable (frames es) h.sound (subst (All Byte) (sym all) b) }, all));
+          (record { stated = ap kept says ∙ kept_lines (frames es); statable = statable (frames es) h.sound (subst (AllByRecursion Byte) (sym all) b) }, all));
     }
 
 -- part of the input is listed: whatever the rest is cut into, the whole is cut into that after what was listed
@@ -72,7 +72,7 @@ pub record Going (input : List ℕ) (at : ℕ) (out : List ℕ) : Type 0 where
   pub done : List Item
   pub inside : at ≤ length input
   pub cut : (es : List Entry) → Cut input at es → Cut input 0 (entries_of done ++ es)
-  pub remarked : All RightlyRemarked done
+  pub remarked : AllByRecursion RightlyRemarked done
   pub shows : out ≡ listed done
 
 module _ (input : List ℕ) (at : ℕ) (out : List ℕ) (g : Going input at out) where

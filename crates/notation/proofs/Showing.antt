@@ -1,9 +1,9 @@
 -- What a byte is shown as: where it starts, how long it is, and that no two bytes are shown alike.
-use Rattle.std.proofs.Common.{◌≡◌, ℕ, ◌+◌, ◌-◌, ◌*◌, ◌/◌, ◌%◌, ◌<◌, ◌≤◌, Bool, true, false, cond, ◌⊎◌, List, [], ◌∷◌, ◌++◌, length, get_or, drop, sym, refl, ap, ◌∙◌, subst, inl, inr, append_assoc, arith, length-append, length-drop}
+use Rattle.std.proofs.Common.{◌≡◌, ℕ, ◌+◌, ◌-◌, ◌*◌, ◌/◌, ◌%◌, ◌≤◌, true, false, ◌⊎◌, List, [], ◌∷◌, ◌++◌, length, get_or, drop, sym, refl, ap, ◌∙◌, inl, inr, append_assoc, arith, length-append, length-drop}
 use Rattle.std.proofs.lemmas.List.{get_or-drop}
 use Rattle.std.proofs.lemmas.Bool.{both_ways, cases_Bool, cond-true, cond-false}
 use Rattle.std.proofs.lemmas.Bool.Decides.{nat_tests}
-use Rattle.std.specs.List.{flat_map, AllByRecursion as All}
+use Rattle.std.specs.List.{flat_map, AllByRecursion}
 use Rattle.reading.proofs.Covering.{next_byte}
 use Rattle.notation.specs.Shown.{plain, hex, shown, Byte}
 
@@ -125,7 +125,7 @@ same_body (b ∷ bs) (d ∷ ds) e =
     ap (λ x. x ∷ bs) s.0 ∙ ap (λ xs. d ∷ xs) (same_body bs ds s.1)
 
 -- a body's text that goes on after what some bytes show goes on with a byte
-pub goes_on : (done body : List ℕ) (rest : List ℕ) → All Byte body → (rest ≡ [] → ⊥) → flat_map shown body ≡ flat_map shown done ++ rest
+pub goes_on : (done body : List ℕ) (rest : List ℕ) → AllByRecursion Byte body → (rest ≡ [] → ⊥) → flat_map shown body ≡ flat_map shown done ++ rest
     → (b : ℕ) × (more : List ℕ) × (Byte b × (rest ≡ shown b ++ more))
 goes_on [] [] rest k n e = absurd (n (sym e))
 goes_on [] (b ∷ bs) rest k n e = (b, flat_map shown bs, (k.0, sym e))

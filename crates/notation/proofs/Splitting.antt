@@ -1,9 +1,9 @@
 -- Where a text is cut into lines.
-use Rattle.std.proofs.Common.{◌≡◌, ℕ, ◌+◌, ◌-◌, ◌<◌, ◌≤◌, Bool, true, false, cond, eqb, ◌⊎◌, List, [], ◌∷◌, ◌++◌, length, get_or, take, drop, sym, refl, ap, ◌∙◌, inl, inr, arith, length-drop}
+use Rattle.std.proofs.Common.{◌≡◌, ℕ, ◌+◌, ◌-◌, ◌<◌, ◌≤◌, true, false, cond, eqb, List, [], ◌∷◌, ◌++◌, length, get_or, take, drop, sym, refl, ap, ◌∙◌, inl, inr, arith, length-drop}
 use Rattle.std.proofs.ByRecursion.{All-from_get_or}
 use Rattle.std.proofs.lemmas.List.{drop_all, drop-drop, drop_more, get_or-take, get_or-drop, take-append-drop, take_all, length-take-le}
 use Rattle.std.proofs.lemmas.Bool.{cases_lt, cond-true, cond-false, eq-eqb, ne_eqb}
-use Rattle.std.specs.List.{AllByRecursion as All}
+use Rattle.std.specs.List.{AllByRecursion}
 use Rattle.notation.specs.Lines.{lines, with_first, unremarked, skipped, kept}
 
 abbrev pub NoFeed : ℕ → Type 0
@@ -13,16 +13,16 @@ goes_on : (b : ℕ) (bs : List ℕ) → NoFeed b → lines (b ∷ bs) ≡ with_f
 goes_on b bs n = cond-false (eqb b 10) ([] ∷ lines bs) (with_first b (lines bs)) (ne_eqb b 10 n)
 
 -- a line and a line feed
-pub lines_feed : (l rest : List ℕ) → All NoFeed l → lines (l ++ (10 ∷ rest)) ≡ l ∷ lines rest
+pub lines_feed : (l rest : List ℕ) → AllByRecursion NoFeed l → lines (l ++ (10 ∷ rest)) ≡ l ∷ lines rest
 lines_feed [] rest n = refl
 lines_feed (b ∷ bs) rest n = goes_on b (bs ++ (10 ∷ rest)) n.0 ∙ ap (with_first b) (lines_feed bs rest n.1)
 
 -- a last line without one
-lines_last : (b : ℕ) (bs : List ℕ) → All NoFeed (b ∷ bs) → lines (b ∷ bs) ≡ (b ∷ bs) ∷ []
+lines_last : (b : ℕ) (bs : List ℕ) → AllByRecursion NoFeed (b ∷ bs) → lines (b ∷ bs) ≡ (b ∷ bs) ∷ []
 lines_last b [] n = goes_on b [] n.0
 lines_last b (d ∷ bs) n = goes_on b (d ∷ bs) n.0 ∙ ap (with_first b) (lines_last d bs n.1)
 
-lines_whole : (l : List ℕ) → 0 < length l → All NoFeed l → lines l ≡ l ∷ []
+lines_whole : (l : List ℕ) → 0 < length l → AllByRecursion NoFeed l → lines l ≡ l ∷ []
 lines_whole [] some n = absurd (omega arith)
 lines_whole (b ∷ bs) some n = lines_last b bs n
 
@@ -34,7 +34,7 @@ module _ (text : List ℕ) (at end : ℕ) (low : at ≤ end) (high : end ≤ len
   unfolding part
   part_length = length-take-le (end - at) (drop at text) (let k = length-drop at text in omega arith)
 
-  part_plain : All NoFeed part
+  part_plain : AllByRecursion NoFeed part
   unfolding part
   part_plain =
       All-from_get_or NoFeed part 0

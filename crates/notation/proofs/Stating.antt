@@ -1,10 +1,9 @@
 -- The record of a line is known by the line.
 use Rattle.std.proofs.Common.{◌≡◌, ℕ, ◌≤◌, List, [], ◌∷◌, ◌++◌, map, length, drop, sym, refl, ap, ◌∙◌, arith}
-use Rattle.std.specs.List.{flat_map, AllByRecursion as All}
+use Rattle.std.specs.List.{flat_map, AllByRecursion}
 use Rattle.reading.specs.Records.{Frame}
-use Rattle.reading.specs.Cut.{Sound}
 use Rattle.reading.proofs.Cuts.{same_frame}
-use Rattle.notation.specs.Shown.{head, shown, line, Byte, Statable}
+use Rattle.notation.specs.Shown.{head, shown, line, Statable}
 use Rattle.notation.proofs.Heads.{same_head}
 use Rattle.notation.proofs.Showing.{same_body}
 
@@ -23,7 +22,7 @@ same_line f g s t e =
     let k = same_head f.issuer g.issuer (flat_map shown f.body) (flat_map shown g.body) s.sound.issuer t.sound.issuer e in
     same_frame f g k.0 (same_body f.body g.body k.1)
 
-pub same_lines : (fs gs : List Frame) → All Statable fs → All Statable gs → map line fs ≡ map line gs → fs ≡ gs
+pub same_lines : (fs gs : List Frame) → AllByRecursion Statable fs → AllByRecursion Statable gs → map line fs ≡ map line gs → fs ≡ gs
 same_lines [] [] s t e = refl
 same_lines [] (g ∷ gs) s t e = absurd (no_more (line g) (map line gs) e)
 same_lines (f ∷ fs) [] s t e = absurd (no_more (line f) (map line fs) (sym e))

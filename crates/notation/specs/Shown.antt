@@ -1,6 +1,6 @@
 -- How records and refusals are shown as text.
 use Rattle.std.specs.Prelude.{◌≡◌, ℕ, ◌+◌, ◌/◌, ◌%◌, ◌<◌, Bool, cond, not, ◌&&◌, List, [], ◌∷◌, ◌++◌, map, Ok, Err, codes, decimal, Result, ◌==◌, nat_le, nat_lt}
-use Rattle.std.specs.List.{flat_map, AllByRecursion as All}
+use Rattle.std.specs.List.{flat_map, AllByRecursion}
 use Rattle.notation.specs.declared.bodies.Bodies.{Bodies}
 use Rattle.notation.specs.declared.bodies.Bodies.TheVariants.{Any, Sentences}
 use Rattle.reading.specs.Faults.{number_of, place_of}
@@ -77,7 +77,7 @@ Byte b = b < 256
 -- a record that has a line
 pub record Statable (f : Frame) : Type 0 where
   pub sound : Sound f
-  pub bytes : All Byte f.body
+  pub bytes : AllByRecursion Byte f.body
 
 -- which bodies are composed: any, or sentences only
 abbrev pub Passes : Bodies → List ℕ → Type 0

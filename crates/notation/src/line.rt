@@ -1,6 +1,6 @@
 // The line of a record: read, and added to a file.
 ghost use Rattle.std.specs.Prelude.{◌≡◌, ℕ, ◌+◌, ◌<◌, ◌≤◌, List, ◌++◌, length, drop, IfOk, Decides, MatchBool, MatchOption, MatchResult, ◌≢◌};
-ghost use Rattle.std.specs.List.{flat_map, AllByRecursion as All};
+ghost use Rattle.std.specs.List.{flat_map, AllByRecursion};
 ghost use Rattle.reading.specs.Records.{Frame};
 ghost use Rattle.notation.specs.Shown.{head, shown, Byte, Passes};
 ghost use Rattle.notation.specs.declared.bodies.Bodies.TheVariants.{Sentences};
@@ -57,7 +57,7 @@ fn issuer_of(line: &[u8]) -> Option<(u8, usize)>
 
 // The body that a line shows from an offset on.
 fn body_of(heap: Global, line: &[u8], start: usize) -> Result<Option<Vec<u8>>, AllocError>
-    ensures { IfOk result (λ o. MatchOption o ((body : List ℕ) → All Byte body → drop start line.now ≢ flat_map shown body) (λ v. All Byte v.items × (drop start line.now ≡ flat_map shown v.items))) }
+    ensures { IfOk result (λ o. MatchOption o ((body : List ℕ) → AllByRecursion Byte body → drop start line.now ≢ flat_map shown body) (λ v. AllByRecursion Byte v.items × (drop start line.now ≡ flat_map shown v.items))) }
 {
     let mut body = Vec::new(heap);
     let mut at = start;

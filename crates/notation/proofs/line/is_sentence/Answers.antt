@@ -1,4 +1,4 @@
-use Rattle.std.proofs.Common.{◌≡◌, ℕ, false, Ok, Err, arith}
+use Rattle.std.proofs.Common.{◌≡◌, ℕ, Ok, arith}
 use Rattle.std.proofs.lemmas.Bool.{false≢true}
 use Rattle.notation.proofs.line.is_sentence.Goals as goal
 

@@ -1,14 +1,14 @@
-use Rattle.std.proofs.Common.{◌≡◌, ◌+◌, ◌*◌, ◌/◌, ◌%◌, ◌<◌, sym, ap, ◌∙◌, arith}
+use Rattle.std.proofs.Common.{◌≡◌, ◌+◌, ◌*◌, ◌/◌, ◌%◌, ap, ◌∙◌, arith}
 use Rattle.notation.proofs.Heads.{unheaded, one_heads, two_heads}
 use Rattle.notation.proofs.line.issuer_of.Goals as goal
 
 pub returns-then-line-lt3 : goal.returns-then-line-lt3
 returns-then-line-lt3 c = unheaded c.args.line.now (λ n h. let w = h.within in omega arith) (λ n h. let w = h.within in omega arith)
 
-pub returns-in-default : goal.returns-in-default
-returns-in-default c =
-    unheaded c.args.line.now (λ n h. c.in-default.ensures n h.small h.first)
-    (λ n h. let f = h.fits in c.in-default.ensures (n / 10) (omega arith) h.first)
+pub returns-in_default : goal.returns-in_default
+returns-in_default c =
+    unheaded c.args.line.now (λ n h. c.in_default.ensures n h.small h.first)
+    (λ n h. let f = h.fits in c.in_default.ensures (n / 10) (omega arith) h.first)
 
 pub returns-then-line-eq32 : goal.returns-then-line-eq32
 returns-then-line-eq32 c =
@@ -18,9 +18,9 @@ returns-then-line-eq32 c =
 pub returns-then-line-lt4 : goal.returns-then-line-lt4
 returns-then-line-lt4 c = unheaded c.args.line.now (λ n h. c.if-line-eq32.false h.space) (λ n h. let w = h.within in omega arith)
 
-pub returns-in-default-digit : goal.returns-in-default-digit
-returns-in-default-digit c =
-    unheaded c.args.line.now (λ n h. c.if-line-eq32.false h.space) (λ n h. c.in-default-digit.ensures (n % 10) (omega arith) h.second)
+pub returns-in_default-digit : goal.returns-in_default-digit
+returns-in_default-digit c =
+    unheaded c.args.line.now (λ n h. c.if-line-eq32.false h.space) (λ n h. c.in_default-digit.ensures (n % 10) (omega arith) h.second)
 
 pub returns-then-line-ne32 : goal.returns-then-line-ne32
 returns-then-line-ne32 c = unheaded c.args.line.now (λ n h. c.if-line-eq32.false h.space) (λ n h. c.if-line-ne32.true h.space)

@@ -7,7 +7,7 @@ pub returns : goal.returns
 returns c =
     let was = string_bytes c.args.out.now in
     let text = told (number_of c.args.fault) (place_of c.args.fault) in
-    let a : string_bytes c.show-refusal.new.out ≡ was ++ text
-    = c.in-ok-show-refusal.ensures ∙ ap (λ n. was ++ told n c.place.result) c.number.ensures ∙ ap (λ p. was ++ told (number_of c.args.fault) p) c.place.ensures in
-    let b : string_bytes c.push-str.new.self ≡ string_bytes c.show-refusal.new.out ++ (10 ∷ []) = c.in-ok-push-str.ensures.bytes in
+    let a : string_bytes c.show_refusal.new.out ≡ was ++ text
+    = c.in_ok-show_refusal.ensures ∙ ap (λ n. was ++ told n c.place.result) c.number.ensures ∙ ap (λ p. was ++ told (number_of c.args.fault) p) c.place.ensures in
+    let b : string_bytes c.push_str.new.self ≡ string_bytes c.show_refusal.new.out ++ (10 ∷ []) = c.in_ok-push_str.ensures.bytes in
     b ∙ ap (λ t. t ++ (10 ∷ [])) a ∙ append_assoc was text (10 ∷ [])
