@@ -17,13 +17,15 @@ ROOT = "crates"
 NAME = r"[^\s(){}\[\];,.\"`@]+"
 TOKEN = re.compile(NAME)
 HEAD = re.compile(rf"^(\s*)(?:(?:abbrev|unfoldable|pub|record|data|ruleset|let|where)\s+)*({NAME})(?=[\s(]).*?:(?:\s|$)")
-# a name that would mean something else in snake case, and what it becomes instead
+# a name that would mean something else in snake case, or that is a fact's, and what it becomes instead
 OTHERWISE = {
     "bit-or": "bit_of_or",
     "bit-xor": "bit_of_xor",
     "with-bit": "with_bit_lem",
     "without-bit": "without_bit_lem",
     "answers-outside": "answers_outside_lem",
+    "Principal-word": "PrincipalWord",
+    "Object-word": "ObjectWord",
 }
 # variables of lemmas, which no line heads
 LOCALS = {"last-cell", "no-neutral", "not-up", "same-unassign", "up-j", "up-n"}
@@ -43,7 +45,7 @@ def read(path):
 
 
 def snake(name):
-    """A word in snake case; a fact keeps its capital, as in Principal_word."""
+    """A word in snake case; a fact keeps its capital."""
     if name in OTHERWISE:
         return OTHERWISE[name]
     turned = name.replace("-", "_")

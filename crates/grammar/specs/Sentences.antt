@@ -6,7 +6,7 @@ use Rattle.model.specs.declared.principal.Principal.{Principal}
 use Rattle.model.specs.declared.principal.Principal.TheVariants as principal
 use Rattle.model.specs.declared.privilege.Privilege.{Privilege}
 use Rattle.model.specs.declared.privilege.Privilege.TheVariants as privilege
-use Rattle.words.specs.Words.{words, digits, index, principal_word, object_word, Numeral, Principal_word, Object_word}
+use Rattle.words.specs.Words.{words, digits, index, principal_word, object_word, Numeral, PrincipalWord, ObjectWord}
 use Rattle.grammar.specs.declared.sentence.Restriction.TheVariants as restriction
 use Rattle.grammar.specs.declared.sentence.Command.{Command}
 use Rattle.grammar.specs.declared.sentence.Command.TheVariants as command
@@ -44,8 +44,8 @@ abbrev pub Fits : Slot → List ℕ → Type 0
 Fits (word k) w = w ≡ k
 Fits a_role w = (n : ℕ) × (n ≤ 99) × (w ≡ principal_word (principal.Role n))
 Fits a_user w = (n : ℕ) × (n ≤ 99) × (w ≡ principal_word (principal.User n))
-Fits a_principal w = Principal_word w
-Fits an_object w = Object_word w
+Fits a_principal w = PrincipalWord w
+Fits an_object w = ObjectWord w
 Fits a_number w = Numeral w
 Fits a_privilege w = (p : Privilege) × (w ≡ privilege_word p)
 Fits a_kind w = (k : Kind) × (w ≡ kind_word k)

@@ -28,19 +28,19 @@ abbrev pub principal_word : Principal → List ℕ
 principal_word (User n) = 117 ∷ digits n
 principal_word (Role n) = 114 ∷ digits n
 
-abbrev pub Principal_word : List ℕ → Type 0
-Principal_word w = (q : Principal) × (index q ≤ 99) × (w ≡ principal_word q)
+abbrev pub PrincipalWord : List ℕ → Type 0
+PrincipalWord w = (q : Principal) × (index q ≤ 99) × (w ≡ principal_word q)
 
 -- the letter o, and the number
 abbrev pub object_word : ℕ → List ℕ
 object_word n = 111 ∷ digits n
 
-abbrev pub Object_word : List ℕ → Type 0
-Object_word w = (n : ℕ) × (n ≤ 99) × (w ≡ object_word n)
+abbrev pub ObjectWord : List ℕ → Type 0
+ObjectWord w = (n : ℕ) × (n ≤ 99) × (w ≡ object_word n)
 
 -- the token is the word w, which stands at an offset
 abbrev pub Tells : List ℕ → ℕ → Token → Type 0
-Tells w at (token.Keyword s o) = (s.now ≡ w) × (o ≡ at) × (Principal_word w → ⊥) × (Object_word w → ⊥) × (Numeral w → ⊥)
+Tells w at (token.Keyword s o) = (s.now ≡ w) × (o ≡ at) × (PrincipalWord w → ⊥) × (ObjectWord w → ⊥) × (Numeral w → ⊥)
 Tells w at (token.Principal s o q) = (s.now ≡ w) × (o ≡ at) × (index q ≤ 99) × (w ≡ principal_word q)
 Tells w at (token.Object s o n) = (s.now ≡ w) × (o ≡ at) × (n ≤ 99) × (w ≡ object_word n)
 Tells w at (token.Number s o n) = (s.now ≡ w) × (o ≡ at) × (n ≤ 99) × (w ≡ digits n)

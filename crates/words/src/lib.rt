@@ -2,7 +2,7 @@
 #![tactic(auto)]
 
 ghost use Rattle.std.specs.Prelude.{◌≡◌, ℕ, ◌<◌, ◌≤◌, [], length, drop, MatchOption, ◌≢◌, slice_index};
-ghost use Rattle.words.specs.Words.{digits, words_from, Numeral, Principal_word, Object_word, Shows, Tells, WordAt};
+ghost use Rattle.words.specs.Words.{digits, words_from, Numeral, PrincipalWord, ObjectWord, Shows, Tells, WordAt};
 
 pub mod token;
 
@@ -29,7 +29,7 @@ pub fn number(word: &[u8]) -> Option<u8>
 
 // What a word names that is the letter u, r or o and a number; none for any other word.
 fn named<'a>(text: &'a [u8], at: usize) -> Option<Token<'a>>
-    ensures { MatchOption result ((Principal_word text.now → ⊥) × (Object_word text.now → ⊥)) (Tells text.now at) }
+    ensures { MatchOption result ((PrincipalWord text.now → ⊥) × (ObjectWord text.now → ⊥)) (Tells text.now at) }
 {
     let Some((first, rest)) = text.split_first() else {
         return None;
