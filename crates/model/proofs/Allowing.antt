@@ -1,5 +1,5 @@
 -- Which cells are allowed, and which of those that commands set.
-use Rattle.std.proofs.Common.{◌≡◌, ℕ, Bool, true, false, IfSome, Some, None, Decides, Option, refl, arith, rules}
+use Rattle.std.proofs.Common.{◌≡◌, ℕ, Bool, false, IfSome, Some, None, Decides, Option, refl, arith, rules}
 use Rattle.std.specs.Option.{option_map}
 use Rattle.model.specs.States.{States, Lawful}
 use Rattle.model.specs.Allowed.{Allowed, is_allowed, cell_of, set_by, fitting}

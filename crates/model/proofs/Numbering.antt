@@ -1,10 +1,9 @@
 -- Principals and privileges by their numbers, and places that are the same.
-use Rattle.std.proofs.Common.{◌≡◌, ℕ, ◌+◌, ◌-◌, ◌<◌, ◌≤◌, Bool, true, false, cond, ◌&&◌, eqb, ltb, ◌⊎◌, sym, refl, ap, ◌∙◌, inl, inr, ⊎_elim, arith, rules}
+use Rattle.std.proofs.Common.{◌≡◌, ℕ, ◌+◌, ◌-◌, ◌<◌, true, false, eqb, ltb, ◌⊎◌, sym, refl, ap, ◌∙◌, inl, inr, ⊎_elim, arith}
 use Rattle.std.proofs.lemmas.Bool.{cases_Bool, cases_lt, cases_eq, eqb-true, eq-eqb, and_parts, and_from, both_ways, cond-true, cond-false, lt-ltb, le-ltb, ltb-true}
-use Rattle.std.proofs.lemmas.Bool.Decides.{nat_tests}
 use Rattle.model.specs.Principals.{in_range}
 use Rattle.model.specs.Privileges.{bit}
-use Rattle.model.specs.Places.{place, same_principal, same_place, same_orientation, principal_at, number, privilege_at}
+use Rattle.model.specs.Places.{place, same_principal, same_place, principal_at, number, privilege_at}
 use Rattle.model.specs.declared.principal.Principal.{Principal}
 use Rattle.model.specs.declared.principal.Principal.TheVariants.{User, Role}
 use Rattle.model.specs.declared.privilege.Privilege.{Privilege}

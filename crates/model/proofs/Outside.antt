@@ -1,19 +1,17 @@
 -- What a store that is unassign out of range answers there.
-use Rattle.std.proofs.Common.{◌≡◌, ℕ, ◌/◌, ◌%◌, ◌<◌, Bool, true, false, not, ◌&&◌, ◌⊎◌, sym, refl, ap, ◌∙◌, ⊎_elim, arith, rules}
+use Rattle.std.proofs.Common.{◌≡◌, ℕ, ◌/◌, ◌%◌, true, false, ◌&&◌, refl, ap, ◌∙◌, ⊎_elim, rules}
 use Rattle.std.proofs.lemmas.Bool.{and_left, and_right, and_cases, cond_both, not_from_true}
-use Rattle.std.proofs.lemmas.Nat.{mod_below, div_below}
 use Rattle.model.specs.Principals.{in_range, object_in_range}
 use Rattle.model.specs.States.{States, Lawful}
 use Rattle.model.specs.Joining.{Joining, joining, JoinLaws}
 use Rattle.model.specs.Allowed.{Allowed, unassigned}
 use Rattle.model.specs.Places.{place, place_in_range, same_orientation, principal_at, privilege_at}
-use Rattle.model.specs.Stores.{Cells, assigned, in_use, pairs, has_option, state_towards, strongest, Sound, AnswersOutside}
+use Rattle.model.specs.Stores.{Cells, assigned, in_use, pairs, has_option, state_towards, strongest, AnswersOutside}
 use Rattle.model.specs.declared.principal.Principal.{Principal}
 use Rattle.model.specs.declared.privilege.Privilege.{Privilege}
 use Rattle.model.specs.declared.place.Place.{Place}
 use Rattle.model.specs.declared.cell.Cell.{Cell}
 use Rattle.model.specs.declared.cell.Orientation.{Orientation}
-use Rattle.model.specs.declared.cell.Orientation.TheVariants.{Up}
 use Rattle.model.proofs.Joins.{join_laws}
 use Rattle.model.proofs.Counting.{any_none, count_same, count_none}
 use Rattle.model.proofs.JoinFolds.{none_joined}

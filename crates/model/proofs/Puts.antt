@@ -1,5 +1,5 @@
 -- The cells with one changed, from what each place holds.
-use Rattle.std.proofs.Common.{◌≡◌, Bool, cond, ◌⊎◌, sym, refl, ap, ◌∙◌, ⊎_elim}
+use Rattle.std.proofs.Common.{◌≡◌, sym, refl, ap, ◌∙◌, ⊎_elim}
 use mathlib.Core.Path.{fun_ext}
 use Rattle.std.proofs.lemmas.Bool.{cond-true, cond-false}
 use Rattle.model.specs.Places.{same_place}

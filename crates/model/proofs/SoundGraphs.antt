@@ -1,5 +1,5 @@
 -- Every call keeps a graph sound, and counts its links.
-use Rattle.std.proofs.Common.{◌≡◌, ℕ, ◌+◌, ◌<◌, ◌≤◌, Bool, true, false, cond, not, eqb, ltb, ◌⊎◌, Some, None, Option, sym, refl, ap, ◌∙◌, ⊎_elim, arith, ltb-true, lt-ltb, ne_eqb, eqb-true}
+use Rattle.std.proofs.Common.{◌≡◌, ℕ, ◌+◌, ◌<◌, ◌≤◌, Bool, true, false, cond, not, eqb, ltb, Some, None, Option, sym, refl, ap, ◌∙◌, ⊎_elim, arith, ltb-true, lt-ltb, ne_eqb, eqb-true}
 use borrow.Author.Tests.{not-true, clash}
 use Rattle.std.proofs.lemmas.Bool.{cases_lt, and_parts, or_cases}
 use Rattle.model.specs.declared.principal.Principal.{Principal}

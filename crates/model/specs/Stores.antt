@@ -1,7 +1,7 @@
 -- What an assignment store means: one cell at each place.
-use Rattle.std.specs.Prelude.{◌≡◌, ℕ, ◌/◌, ◌%◌, ◌≤◌, Bool, true, false, cond, not, ◌&&◌, ◌||◌, nat_lt}
+use Rattle.std.specs.Prelude.{◌≡◌, ℕ, ◌/◌, ◌%◌, ◌≤◌, Bool, false, cond, not, ◌&&◌, ◌||◌, nat_lt}
 use Rattle.model.specs.Principals.{in_range, object_in_range}
-use Rattle.model.specs.States.{States, same}
+use Rattle.model.specs.States.{States}
 use Rattle.model.specs.Joining.{Joining, joining}
 use Rattle.model.specs.Allowed.{Allowed, is_allowed, unassigned}
 use Rattle.model.specs.Folds.{count_below, any_below, join_below}
