@@ -7,6 +7,9 @@
 //! by 200,000 CHECKs. Prints how many records load.records has. Always writes the same bytes.
 //! docs/RECORDS.md tells what a record is.
 
+mod random;
+
+use random::Random;
 use std::path::Path;
 
 const ROLES: usize = 60;
@@ -15,22 +18,7 @@ const CHECKS: usize = 200_000;
 /// What the type bitmaps defines.
 const PRIVILEGES: [&str; 4] = ["read", "build", "export", "drop"];
 
-/// The generator splitmix64.
-struct Random(u64);
-
 impl Random {
-    fn next(&mut self) -> u64 {
-        self.0 = self.0.wrapping_add(0x9E37_79B9_7F4A_7C15);
-        let mut mixed = self.0;
-        mixed = (mixed ^ mixed >> 30).wrapping_mul(0xBF58_476D_1CE4_E5B9);
-        mixed = (mixed ^ mixed >> 27).wrapping_mul(0x94D0_49BB_1331_11EB);
-        mixed ^ mixed >> 31
-    }
-
-    fn below(&mut self, bound: usize) -> usize {
-        (self.next() % bound as u64) as usize
-    }
-
     /// So many different ones of the candidates; all of them if there are fewer.
     fn some(&mut self, mut candidates: Vec<usize>, count: usize) -> Vec<usize> {
         let mut chosen = Vec::new();

@@ -8,28 +8,15 @@
 //! Most sentences are meaningful and stay within small sets of users, roles and objects, so that
 //! they meet. The generator only guesses what was accepted; it works out no answers.
 
+mod random;
+
+use random::Random;
 use std::fmt;
 use std::path::Path;
 
 // Chance
 
-/// The generator splitmix64.
-struct Random(u64);
-
 impl Random {
-    fn next(&mut self) -> u64 {
-        self.0 = self.0.wrapping_add(0x9E37_79B9_7F4A_7C15);
-        let mut mixed = self.0;
-        mixed = (mixed ^ mixed >> 30).wrapping_mul(0xBF58_476D_1CE4_E5B9);
-        mixed = (mixed ^ mixed >> 27).wrapping_mul(0x94D0_49BB_1331_11EB);
-        mixed ^ mixed >> 31
-    }
-
-    /// A number from 0 to `bound` - 1.
-    fn below(&mut self, bound: usize) -> usize {
-        (self.next() % bound as u64) as usize
-    }
-
     /// A number from `first` to `last`.
     fn between(&mut self, first: usize, last: usize) -> usize {
         first + self.below(last - first + 1)
