@@ -8,5 +8,6 @@ pub mod object;
 pub mod place;
 pub mod principal;
 pub mod privilege;
+pub mod right;
 pub mod scale;
 pub mod store;

@@ -26,30 +26,18 @@ impl Place {
     pub fn same(self, other: Place) -> bool
         ensures { result ≡ same_place self other }
     {
-        self.object == other.object
-            && same_principal(self.granter, other.granter)
-            && same_principal(self.grantee, other.grantee)
-            && self.privilege.bit() == other.privilege.bit()
+        self == other
     }
 }
 
 pub fn same_principal(a: Principal, b: Principal) -> bool
     ensures { result ≡ same_principal a b }
 {
-    match (a, b) {
-        (Principal::User(m), Principal::User(n)) => m == n,
-        (Principal::Role(m), Principal::Role(n)) => m == n,
-        (Principal::User(_), Principal::Role(_)) | (Principal::Role(_), Principal::User(_)) =>
-            false,
-    }
+    a == b
 }
 
-pub fn same_orientation(a: Orientation, b: Orientation) -> bool
-    ensures { result ≡ same_orientation a b }
+pub fn same_orientation(one: Orientation, other: Orientation) -> bool
+    ensures { result ≡ same_orientation one other }
 {
-    match a {
-        Orientation::Up => matches!(b, Orientation::Up),
-        Orientation::Down => matches!(b, Orientation::Down),
-        Orientation::Neutral => matches!(b, Orientation::Neutral),
-    }
+    one == other
 }

@@ -31,7 +31,7 @@ impl Principal {
 pub fn user_level(user: u8) -> Option<u8>
     ensures { result ≡ user_level user }
 {
-    if user < USERS { Some(USER_LEVEL) } else { None }
+    (user < USERS).then_some(USER_LEVEL)
 }
 
 // Whether a role can have the level.

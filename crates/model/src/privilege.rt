@@ -1,5 +1,5 @@
 ghost use Rattle.std.specs.Prelude.{◌≡◌, ◌<◌, ◌≤◌, Some, MatchOption};
-ghost use Rattle.model.specs.Privileges.{bit as bit_of};
+ghost use Rattle.model.specs.Privileges.{bit as bit_of, PrivilegeOf};
 
 pub const PRIVILEGES: u8 = 8;
 
@@ -29,16 +29,32 @@ impl Privilege {
         ensures found { MatchOption result (8 ≤ bit) (λ p. bit_of p ≡ bit) }
         ensures only { (p : Privilege) → bit_of p ≡ bit → result ≡ Some p }
     {
+        Privilege::try_from(bit).ok()
+    }
+}
+
+// A bit that no privilege has.
+#[derive(Clone, Copy, Debug, PartialEq, Eq)]
+pub struct NoPrivilege {
+    pub bit: u8,
+}
+
+impl TryFrom<u8> for Privilege {
+    type Error = NoPrivilege;
+
+    ghost try_from_gives = { PrivilegeOf };
+
+    fn try_from(bit: u8) -> Result<Privilege, NoPrivilege> {
         match bit {
-            0 => Some(Privilege::Read),
-            1 => Some(Privilege::Draw),
-            2 => Some(Privilege::Hint),
-            3 => Some(Privilege::Proof),
-            4 => Some(Privilege::Build),
-            5 => Some(Privilege::Export),
-            6 => Some(Privilege::Rename),
-            7 => Some(Privilege::Drop),
-            _ => None,
+            0 => Ok(Privilege::Read),
+            1 => Ok(Privilege::Draw),
+            2 => Ok(Privilege::Hint),
+            3 => Ok(Privilege::Proof),
+            4 => Ok(Privilege::Build),
+            5 => Ok(Privilege::Export),
+            6 => Ok(Privilege::Rename),
+            7 => Ok(Privilege::Drop),
+            _ => Err(NoPrivilege { bit }),
         }
     }
 }

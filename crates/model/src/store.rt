@@ -5,7 +5,7 @@ ghost use Rattle.model.specs.Stores.{Cells, pairs, in_use, has_option, strongest
 use crate::cell::{Cell, Orientation};
 use crate::place::Place;
 use crate::principal::Principal;
-use crate::privilege::Privilege;
+use crate::right::Right;
 use crate::scale::Scale;
 
 // A store of assignments: one cell at each place.
@@ -26,27 +26,23 @@ pub trait Store<S: Scale> {
     fn is_pair_in_use(&self, object: u8, granter: Principal, grantee: Principal) -> bool
         ensures { result ≡ in_use (joining S.Scale.states) (cells self.now) object granter grantee };
 
-    // Whether a grantee has an option, from any granter.
-    fn has_option(&self, object: u8, privilege: Privilege, grantee: Principal) -> bool
-        ensures { result ≡ has_option (cells self.now) object privilege grantee };
+    // Whether a grantee has an option for a right, from any granter.
+    fn has_option(&self, right: Right, grantee: Principal) -> bool
+        ensures { result ≡ has_option (cells self.now) right.object right.privilege grantee };
 
     // The join of the states that a grantee has in one orientation, from every granter.
-    fn strongest(
-        &self,
-        object: u8,
-        privilege: Privilege,
-        grantee: Principal,
-        orientation: Orientation,
-    ) -> S
-        ensures { result ≡ strongest_of (joining S.Scale.states) (cells self.now) object privilege grantee orientation };
+    fn strongest(&self, right: Right, grantee: Principal, orientation: Orientation) -> S
+        ensures { result ≡ strongest_of (joining S.Scale.states) (cells self.now) right.object right.privilege grantee orientation };
 
-    // Writes one cell where that is allowed and there is room, and says whether it did.
+    // Writes one cell where that is allowed and there is room, and says whether it did. The cell is
+    // behind a reference since an impl is refused the clauses of a generic struct by value.
     fn write(&mut self, place: Place, cell: &Cell<S>) -> bool
         ensures told { result ≡ writable S.Scale.states (full self.old) (cells self.old) place cell.now }
         ensures cells { cells self.new ≡ after_write (cells self.old) place cell.now result }
         ensures memory { full self.new ≡ full self.old };
 
-    // Does nothing: its contract is what every store keeps.
+    // Does nothing: its contract is what every store keeps. As a law of the trait it would have to
+    // be proved in specs/, and the lemmas that it rests on are a thousand lines of proofs/.
     fn sound(&self)
         ensures { Sound S.Scale.states (cells self.now) };
 
