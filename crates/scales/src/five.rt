@@ -1,31 +1,17 @@
 ghost use Rattle.std.specs.Prelude.{◌≡◌};
-ghost use Rattle.scales.specs.Five.{five, rank as rank_of};
+ghost use Rattle.scales.specs.Five.{five};
 ghost use Rattle.std.proofs.Common.{rules};
 
 use model::scale::{Scale, StateCommand};
 
-// Strongest first.
-#[derive(Clone, Copy, Debug, PartialEq, Eq)]
+// Weakest first: the derived order is the order of overriding.
+#[derive(Clone, Copy, Debug, PartialEq, Eq, PartialOrd, Ord)]
 pub enum FiveState {
-    Deny,
-    Suspend,
-    Taint,
-    Grant,
     Unassign,
-}
-
-impl FiveState {
-    fn rank(self) -> u8
-        ensures { result ≡ rank_of self }
-    {
-        match self {
-            FiveState::Deny => 4,
-            FiveState::Suspend => 3,
-            FiveState::Taint => 2,
-            FiveState::Grant => 1,
-            FiveState::Unassign => 0,
-        }
-    }
+    Grant,
+    Taint,
+    Suspend,
+    Deny,
 }
 
 impl Scale for FiveState {
@@ -34,7 +20,7 @@ impl Scale for FiveState {
     ghost lawful = { Prim.search rules };
 
     fn overrides(self, other: Self) -> bool {
-        self.rank() >= other.rank()
+        self >= other
     }
 
     fn travels_up(self) -> bool {

@@ -1,25 +1,14 @@
 ghost use Rattle.std.specs.Prelude.{◌≡◌};
-ghost use Rattle.scales.specs.Two.{two, rank as rank_of};
+ghost use Rattle.scales.specs.Two.{two};
 ghost use Rattle.std.proofs.Common.{rules};
 
 use model::scale::{Scale, StateCommand};
 
-// Strongest first.
-#[derive(Clone, Copy, Debug, PartialEq, Eq)]
+// Weakest first: the derived order is the order of overriding.
+#[derive(Clone, Copy, Debug, PartialEq, Eq, PartialOrd, Ord)]
 pub enum TwoState {
-    Grant,
     Unassign,
-}
-
-impl TwoState {
-    fn rank(self) -> u8
-        ensures { result ≡ rank_of self }
-    {
-        match self {
-            TwoState::Grant => 1,
-            TwoState::Unassign => 0,
-        }
-    }
+    Grant,
 }
 
 impl Scale for TwoState {
@@ -28,7 +17,7 @@ impl Scale for TwoState {
     ghost lawful = { Prim.search rules };
 
     fn overrides(self, other: Self) -> bool {
-        self.rank() >= other.rank()
+        self >= other
     }
 
     // Both do.
@@ -37,10 +26,7 @@ impl Scale for TwoState {
     }
 
     fn assigned(command: StateCommand) -> Option<Self> {
-        match command {
-            StateCommand::Grant => Some(Self::Grant),
-            StateCommand::Taint | StateCommand::Suspend | StateCommand::Deny => None,
-        }
+        (command == StateCommand::Grant).then_some(Self::Grant)
     }
 
     fn unassign() -> Self {
