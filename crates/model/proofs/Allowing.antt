@@ -11,9 +11,6 @@ pub allowed_decides : {S : Type 0} (s : States S) → Lawful s → (c : Cell S) 
 allowed_decides s l c = search rules
 
 module _ {S : Type 0} (s : States S) (l : Lawful s) where
-  granted_cell : (neutral option : Bool) → Decides (fitting Grant neutral option) (Allowed s (cell_of s neutral option s.granted))
-  granted_cell neutral option = search rules
-
   down_cell : (x : S) → s.travels_up x ≡ false → (neutral option : Bool) → Decides (fitting Taint neutral option) (Allowed s (cell_of s neutral option x))
   down_cell x d neutral option = search rules
 
@@ -22,8 +19,7 @@ module _ {S : Type 0} (s : States S) (l : Lawful s) where
   other_cell c x n e = down_cell x (l.others_down c x n e)
 
   assigned_cell : (c : StateCommand) (neutral option : Bool) (x : S) → s.assigned c ≡ Some x → Decides (fitting c neutral option) (Allowed s (cell_of s neutral option x))
-  assigned_cell Grant neutral option x e =
-      let k : s.granted ≡ x = cc l.grant_assigned in rw (← k) (granted_cell neutral option)
+  assigned_cell Grant neutral option x e = search rules
   assigned_cell Taint neutral option x e =
       other_cell Taint x (λ f. let z : ◌≡◌ {A = ℕ} 0 1 = cc in omega arith) e neutral option
   assigned_cell Suspend neutral option x e =

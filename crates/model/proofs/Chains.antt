@@ -1,5 +1,5 @@
 -- Principals, levels and chains of links.
-use Rattle.std.proofs.Common.{◌≡◌, ℕ, ◌<◌, Bool, true, ◌⊎◌, Some, None, Decides, Option, sym, refl, ap, ◌∙◌, subst, inl, inr, ⊎_elim, arith, ltb-true, lt-ltb, eq-eqb, eqb-true}
+use Rattle.std.proofs.Common.{◌≡◌, ℕ, ◌<◌, Bool, true, ◌⊎◌, Some, None, Decides, Option, sym, refl, ap, ◌∙◌, subst, inl, inr, ⊎_elim, eq-eqb, eqb-true, rules}
 use borrow.Author.Tests.{clash}
 use Rattle.model.specs.declared.principal.Principal.{Principal}
 use Rattle.model.specs.declared.principal.Principal.TheVariants.{User, Role}
@@ -17,7 +17,7 @@ same_self (User n) = eq-eqb n n refl
 same_self (Role n) = eq-eqb n n refl
 
 pub same_eq : (a b : Principal) → a ≡ b → same_principal a b ≡ true
-same_eq a b e = ap (λ x. same_principal a x) (sym e) ∙ same_self a
+same_eq a b e = search rules
 
 pub decides_same : (a b : Principal) → Decides (same_principal a b) (a ≡ b)
 decides_same a b = (same_true a b, same_eq a b)
@@ -36,7 +36,7 @@ joined (via a b r e ch) d = via a _ r e (joined ch d)
 
 -- no chain leads from a role to a user
 role_to_user : {linked : Principal → ℕ → Bool} {a b : Principal} → Chain linked a b → (r n : ℕ) → a ≡ Role r → b ≡ User n → ⊥
-role_to_user (stay a) r n p q = let z : ◌≡◌ {A = ℕ} 0 1 = cc in omega arith
+role_to_user (stay a) r n p q = search rules
 role_to_user (via a b k e ch) r n p q = role_to_user ch k n refl q
 
 pub no_chain_to_user : {linked : Principal → ℕ → Bool} (a : Principal) (n : ℕ) → (a ≡ User n → ⊥) → Chain linked a (User n) → ⊥
@@ -44,12 +44,7 @@ no_chain_to_user {linked} a n ne ch =
     ⊎_elim ne (λ (f : (r : ℕ) × (linked a r ≡ true) × Chain linked (Role r) (User n)). role_to_user f.2 f.0 n refl refl) (first_link ch)
 
 pub smaller_less : (a b : Option ℕ) (m n : ℕ) → smaller a b ≡ true → a ≡ Some m → b ≡ Some n → m < n
-smaller_less a b m n e p q = ltb-true m n (sym (ap (λ x. smaller x (Some n)) p) ∙ sym (ap (λ x. smaller a x) q) ∙ e)
-
-pub smaller_left : (a b : Option ℕ) → smaller a b ≡ true → a ≡ None → ⊥
-smaller_left (Some m) b e z = let c : ◌≡◌ {A = ℕ} 0 1 = cc in omega arith
-smaller_left None (Some n) e z = clash e
-smaller_left None None e z = clash e
+smaller_less a b m n e p q = search rules
 
 pub smaller_right : (a b : Option ℕ) → smaller a b ≡ true → (n : ℕ) × (b ≡ Some n)
 smaller_right a (Some n) e = (n, refl)
@@ -57,7 +52,7 @@ smaller_right None None e = absurd (clash e)
 smaller_right (Some m) None e = absurd (clash e)
 
 smaller_trans : (a b c : Option ℕ) → smaller a b ≡ true → smaller b c ≡ true → smaller a c ≡ true
-smaller_trans (Some l) (Some m) (Some n) e f = lt-ltb l n (omega (arith, ltb-true l m e, ltb-true m n f))
+smaller_trans (Some l) (Some m) (Some n) e f = search rules
 smaller_trans (Some l) (Some m) None e f = absurd (clash f)
 smaller_trans (Some l) None c e f = absurd (clash e)
 smaller_trans None (Some m) c e f = absurd (clash e)
@@ -82,7 +77,7 @@ role_apart a b ne e = ne (cc)
 
 -- the answer to whether a is above b, where they differ
 pub above_decided : (g : RoleGraph) (a b : ℕ) (r : Bool) → (a ≡ b → ⊥) → Decides r (Reaches g (Role a) (Role b)) → Decides r (Above g a b)
-above_decided g a b r ne d = ((λ e. record { differ = ne; reaches = d.0 e }), (λ h. d.1 h.reaches))
+above_decided g a b r ne d = search rules
 
 pub above_falls : (g : RoleGraph) (a b : ℕ) → ((p : Principal) (r : ℕ) → g.linked p r ≡ true → falls g.level p r ≡ true) → Above g a b → falls g.level (Role a) b ≡ true
 above_falls g a b f h = chain_falls g.level f (Role a) b (role_apart a b h.differ) h.reaches.chain

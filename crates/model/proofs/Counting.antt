@@ -1,5 +1,5 @@
 -- Counting and asking below a bound.
-use Rattle.std.proofs.Common.{◌≡◌, ℕ, zero, suc, ◌+◌, ◌<◌, ◌≤◌, Bool, true, false, ◌&&◌, ◌||◌, eqb, sym, refl, ap, ◌∙◌, ⊎_elim, add-one, arith}
+use Rattle.std.proofs.Common.{◌≡◌, ℕ, zero, suc, ◌+◌, ◌<◌, ◌≤◌, Bool, true, false, ◌&&◌, ◌||◌, eqb, sym, refl, ap, ◌∙◌, ⊎_elim, arith, rules}
 use Rattle.std.proofs.lemmas.Bool.{cases_eq, cases_Bool, eq-eqb, ne_eqb, or_from, or_left, or_right, or_cases, and_left, and_right, and_from, both_ways}
 use Rattle.model.specs.Folds.{one_if, count_below, any_below}
 
@@ -50,7 +50,7 @@ any_same (suc n) p q h = ap (λ (b : Bool). b || any_below n p) (h n (omega arit
 -- where the answer is yes, an index that says so
 pub any_witness : (n : ℕ) (p : ℕ → Bool) → any_below n p ≡ true → (k : ℕ) × (k < n) × (p k ≡ true)
 unfolding any_below
-any_witness zero p e = absurd (both_ways false refl e)
+any_witness zero p e = cc
 any_witness (suc n) p e =
     ⊎_elim
     (λ here. (n, omega arith, here))
@@ -89,7 +89,7 @@ count_owned N (suc n) own up bounded single =
 
 pub count_more : (n : ℕ) (p : ℕ → Bool) → count_below (n + 1) p ≡ one_if (p n) + count_below n p
 unfolding count_below
-count_more n p = ap (λ (m : ℕ). count_below m p) (add-one n)
+count_more n p = search rules
 
 pub count_nothing : (p : ℕ → Bool) → count_below 0 p ≡ 0
 unfolding count_below
@@ -97,7 +97,7 @@ count_nothing p = refl
 
 pub any_more : (n : ℕ) (p : ℕ → Bool) → any_below (n + 1) p ≡ (p n || any_below n p)
 unfolding any_below
-any_more n p = ap (λ (m : ℕ). any_below m p) (add-one n)
+any_more n p = search rules
 
 pub any_nothing : (p : ℕ → Bool) → any_below 0 p ≡ false
 unfolding any_below

@@ -1,5 +1,5 @@
 -- The join below a bound depends only on which states are joined. From the laws of the join alone.
-use Rattle.std.proofs.Common.{◌≡◌, ℕ, zero, suc, ◌+◌, ◌<◌, ◌⊎◌, sym, refl, ap, ◌∙◌, ⊎_elim, add-one, arith}
+use Rattle.std.proofs.Common.{◌≡◌, ℕ, zero, suc, ◌+◌, ◌<◌, ◌⊎◌, sym, refl, ap, ◌∙◌, ⊎_elim, arith, rules}
 use Rattle.std.proofs.lemmas.Bool.{cases_eq}
 use Rattle.model.specs.Joining.{Joining, JoinLaws}
 use Rattle.model.specs.Folds.{join_below}
@@ -7,7 +7,7 @@ use Rattle.model.specs.Folds.{join_below}
 module _ {S : Type 0} (j : Joining S) where
   pub join_more : (n : ℕ) (f : ℕ → S) → join_below j (n + 1) f ≡ j.join (f n) (join_below j n f)
   unfolding join_below
-  join_more n f = ap (λ (m : ℕ). join_below j m f) (add-one n)
+  join_more n f = search rules
 
   pub join_none : (f : ℕ → S) → join_below j 0 f ≡ j.unassign
   unfolding join_below

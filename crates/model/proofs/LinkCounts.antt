@@ -1,5 +1,5 @@
 -- How the number of links changes with one link more or less.
-use Rattle.std.proofs.Common.{◌≡◌, ℕ, zero, suc, ◌+◌, ◌<◌, Bool, true, false, not, ◌&&◌, ◌||◌, eqb, ◌≢◌, sym, refl, ap, ◌∙◌, ⊎_elim, arith, ltb-true, eq-eqb, ne_eqb, eqb-true}
+use Rattle.std.proofs.Common.{◌≡◌, ℕ, zero, suc, ◌+◌, ◌<◌, Bool, true, false, not, ◌&&◌, ◌||◌, eqb, ◌≢◌, sym, refl, ap, ◌∙◌, ⊎_elim, arith, ltb-true, eq-eqb, ne_eqb, eqb-true, rules}
 use mathlib.Core.Path.{fun_ext}
 use Rattle.std.proofs.lemmas.Bool.{cases_eq, and_parts, and_from}
 use Rattle.model.specs.declared.principal.Principal.{Principal}
@@ -38,7 +38,7 @@ sum_more f g c (suc n) l e h =
     (cases_eq c n)
 
 one_more : (b : Bool) → b ≡ false → one_if true ≡ 1 + one_if b
-one_more b e = ap (λ x. 1 + one_if x) (sym e)
+one_more b e = cc
 
 from_more : (linked : Principal → ℕ → Bool) (p : Principal) (r : ℕ) → r < 64 → linked p r ≡ false → same_principal p p ≡ true → links_from (λ q k. same_link p r q k || linked q k) p ≡ 1 + links_from linked p
 from_more linked p r l e s =
@@ -47,7 +47,7 @@ from_more linked p r l e s =
     (λ k ne. ap (λ x. one_if ((x && eqb r k) || linked p k)) s ∙ ap (λ x. one_if (x || linked p k)) (ne_eqb r k (λ z. ne (sym z))))
 
 from_same : (linked : Principal → ℕ → Bool) (u p : Principal) (r : ℕ) → same_principal u p ≡ false → links_from (λ q k. same_link u r q k || linked q k) p ≡ links_from linked p
-from_same linked u p r e = ap (λ x. sum_below (λ k. one_if ((x && eqb r k) || linked p k)) 64) e
+from_same linked u p r e = search rules
 
 -- one link more
 pub count_more : (linked : Principal → ℕ → Bool) (u : Principal) (r : ℕ) → in_range u ≡ true → r < 64 → linked u r ≡ false → link_count (λ q k. same_link u r q k || linked q k) ≡ 1 + link_count linked

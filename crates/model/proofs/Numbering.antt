@@ -1,23 +1,17 @@
 -- Principals and privileges by their numbers, and places that are the same.
-use Rattle.std.proofs.Common.{◌≡◌, ℕ, ◌+◌, ◌-◌, ◌<◌, true, false, eqb, ltb, rules, ◌⊎◌, sym, refl, ap, ◌∙◌, inl, inr, ⊎_elim, arith}
-use Rattle.std.proofs.lemmas.Bool.{cases_Bool, cases_lt, cases_eq, eqb-true, eq-eqb, and_parts, and_from, both_ways, cond-true, cond-false, lt-ltb, le-ltb, ltb-true}
+use Rattle.std.proofs.Common.{◌≡◌, ℕ, ◌<◌, true, false, rules, ◌⊎◌, arith}
 use Rattle.std.proofs.lemmas.Bool.Decides.{nat_tests}
 use Rattle.model.specs.Principals.{in_range}
 use Rattle.model.specs.Privileges.{bit}
-use Rattle.model.specs.Places.{place, same_principal, same_place, principal_at, number, privilege_at}
+use Rattle.model.specs.Places.{same_principal, same_place, principal_at, number, privilege_at}
 use Rattle.model.specs.declared.principal.Principal.{Principal}
 use Rattle.model.specs.declared.principal.Principal.TheVariants.{User, Role}
 use Rattle.model.specs.declared.privilege.Privilege.{Privilege}
-use Rattle.model.specs.declared.privilege.Privilege.TheVariants.{Read, Draw, Hint, Proof, Build, Export, Rename, Drop}
 use Rattle.model.specs.declared.place.Place.{Place}
 
 pub number_in : (p : Principal) → in_range p ≡ true → number p < 128
 number_in (User n) e = grind (arith, nat_tests)
 number_in (Role n) e = grind (arith, nat_tests)
-
-pub number_out : (p : Principal) → in_range p ≡ false → number p ≡ 128
-number_out (User n) e = grind (arith, nat_tests)
-number_out (Role n) e = grind (arith, nat_tests)
 
 pub in_number : (p : Principal) → number p < 128 → in_range p ≡ true
 in_number (User n) e = grind (arith, nat_tests)
@@ -32,7 +26,7 @@ number_at k lt = grind (arith, nat_tests)
 
 -- principals in range with one number are one
 pub number_same : (p q : Principal) → in_range p ≡ true → in_range q ≡ true → number p ≡ number q → p ≡ q
-number_same p q x y e = sym (at_number p x) ∙ ap principal_at e ∙ at_number q y
+number_same p q x y e = search rules
 
 pub bit_below : (p : Privilege) → bit p < 8
 bit_below p = search rules
@@ -50,31 +44,20 @@ bit_same p q e = search rules
 pub principal_same : (p q : Principal) → same_principal p q ≡ true → p ≡ q
 principal_same p q e = search rules
 
-principal_self : (p : Principal) → same_principal p p ≡ true
-principal_self p = search rules
-
 pub same_principals : (p q : Principal) → p ≡ q → same_principal p q ≡ true
 same_principals p q e = search rules
 
 pub place_eq : (a b : Place) → a.object ≡ b.object → a.granter ≡ b.granter → a.grantee ≡ b.grantee → a.privilege ≡ b.privilege → a ≡ b
-place_eq a b x y z w =
-    ap (λ (n : ℕ). place n a.granter a.grantee a.privilege) x
-    ∙ ap (λ (p : Principal). place b.object p a.grantee a.privilege) y
-    ∙ ap (λ (p : Principal). place b.object b.granter p a.privilege) z
-    ∙ ap (λ (k : Privilege). place b.object b.granter b.grantee k) w
+place_eq a b x y z w = search rules
 
 pub same_true : (a b : Place) → same_place a b ≡ true → a ≡ b
-same_true a b h =
-    let x = and_parts (eqb a.object b.object) _ h in
-    let y = and_parts (same_principal a.granter b.granter) _ x.1 in
-    let z = and_parts (same_principal a.grantee b.grantee) (eqb (bit a.privilege) (bit b.privilege)) y.1 in
-    place_eq a b (eqb-true a.object b.object x.0) (principal_same a.granter b.granter y.0) (principal_same a.grantee b.grantee z.0) (bit_same a.privilege b.privilege (eqb-true (bit a.privilege) (bit b.privilege) z.1))
+same_true a b h = grind (arith, nat_tests)
 
 pub true_same : (a b : Place) → a ≡ b → same_place a b ≡ true
 true_same a b e = search rules
 
 pub cases_place : (a b : Place) → (a ≡ b) ⊎ (a ≡ b → ⊥)
-cases_place a b = ⊎_elim (λ e. inl (same_true a b e)) (λ none. inr (λ e. both_ways (same_place a b) none (true_same a b e))) (cases_Bool (same_place a b))
+cases_place a b = search rules
 
 pub differ_place : (a b : Place) → (a ≡ b → ⊥) → same_place a b ≡ false
-differ_place a b ne = ⊎_elim (λ e. absurd (ne (same_true a b e))) (λ none. none) (cases_Bool (same_place a b))
+differ_place a b ne = grind (arith, nat_tests)

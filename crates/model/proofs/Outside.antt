@@ -1,11 +1,11 @@
 -- What a store that is unassign out of range answers there.
-use Rattle.std.proofs.Common.{◌≡◌, ℕ, ◌/◌, ◌%◌, true, false, ◌&&◌, refl, ap, ◌∙◌, ⊎_elim, rules}
-use Rattle.std.proofs.lemmas.Bool.{and_left, and_right, and_cases, cond_both, not_from_true}
+use Rattle.std.proofs.Common.{◌≡◌, ℕ, ◌/◌, ◌%◌, false, ◌&&◌, ap, ◌∙◌, rules}
+use Rattle.std.proofs.lemmas.Bool.{and_left}
 use Rattle.model.specs.Principals.{in_range, object_in_range}
 use Rattle.model.specs.States.{States, Lawful}
 use Rattle.model.specs.Joining.{Joining, joining, JoinLaws}
 use Rattle.model.specs.Allowed.{Allowed, unassigned}
-use Rattle.model.specs.Places.{place, place_in_range, same_orientation, principal_at, privilege_at}
+use Rattle.model.specs.Places.{place, place_in_range, principal_at, privilege_at}
 use Rattle.model.specs.Stores.{Cells, assigned, in_use, pairs, has_option, state_towards, strongest, AnswersOutside}
 use Rattle.model.specs.declared.principal.Principal.{Principal}
 use Rattle.model.specs.declared.privilege.Privilege.{Privilege}
@@ -16,15 +16,12 @@ use Rattle.model.proofs.Joins.{join_laws}
 use Rattle.model.proofs.Counting.{any_none, count_same, count_none}
 use Rattle.model.proofs.JoinFolds.{none_joined}
 
-pub unassign_same : {S : Type 0} (j : Joining S) → JoinLaws j → j.same j.unassign j.unassign ≡ true
-unassign_same j laws = (laws.told_apart j.unassign j.unassign).1 refl
-
 -- nothing is assigned where nobody assigned it
 pub unassigned_none : {S : Type 0} (j : Joining S) → JoinLaws j → assigned j j.unassign ≡ false
-unassigned_none j laws = not_from_true _ (unassign_same j laws)
+unassigned_none j laws = search rules
 
 pub towards_none : {S : Type 0} (j : Joining S) (t : Orientation) (c : Cell S) → c.state ≡ j.unassign → state_towards j t c ≡ j.unassign
-towards_none j t c e = cond_both (same_orientation t c.orientation) c.state j.unassign (λ x. x ≡ j.unassign) (λ _. e) (λ _. refl)
+towards_none j t c e = search rules
 
 module _ {S : Type 0} (s : States S) (law : Lawful s) (cells : Cells S) (outside : (p : Place) → place_in_range p ≡ false → cells p ≡ unassigned s) where
   laws : JoinLaws (joining s)
@@ -44,7 +41,7 @@ module _ {S : Type 0} (s : States S) (law : Lawful s) (cells : Cells S) (outside
       ∙ count_none 16384
 
   range_out : (o : ℕ) (g e : Principal) → (object_in_range o && in_range e) ≡ false → (object_in_range o && (in_range g && in_range e)) ≡ false
-  range_out o g e out = ⊎_elim (λ x. and_left (object_in_range o) _ x) (λ y. and_right (object_in_range o) _ (and_right (in_range g) (in_range e) y)) (and_cases (object_in_range o) (in_range e) out)
+  range_out o g e out = search rules
 
   option_out : (o : ℕ) (p : Privilege) (e : Principal) → (object_in_range o && in_range e) ≡ false → has_option cells o p e ≡ false
   unfolding has_option

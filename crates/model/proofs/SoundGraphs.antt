@@ -1,22 +1,20 @@
 -- Every call keeps a graph sound, and counts its links.
-use Rattle.std.proofs.Common.{◌≡◌, ℕ, ◌+◌, ◌<◌, ◌≤◌, Bool, true, false, cond, not, eqb, ltb, Some, None, Option, sym, refl, ap, ◌∙◌, ⊎_elim, arith, ltb-true, lt-ltb, ne_eqb, eqb-true}
-use borrow.Author.Tests.{not-true, clash}
-use Rattle.std.proofs.lemmas.Bool.{cases_lt, and_parts, or_cases}
+use Rattle.std.proofs.Common.{◌≡◌, ℕ, ◌+◌, ◌<◌, ◌≤◌, Bool, true, false, cond, not, eqb, ltb, Some, None, Option, sym, refl, ap, ◌∙◌, ⊎_elim, arith, ne_eqb, eqb-true, rules}
+use Rattle.std.proofs.lemmas.Bool.{and_parts, or_cases}
 use Rattle.model.specs.declared.principal.Principal.{Principal}
 use Rattle.model.specs.declared.principal.Principal.TheVariants.{User, Role}
 use Rattle.model.specs.Principals.{in_range, user_level}
 use Rattle.model.specs.LinkCount.{link_count}
-use Rattle.model.specs.Graphs.{RoleGraph, Sound, same_link, level_of, smaller, falls, vacant, takes_level, takes_link, with_level, with_link, without_link}
-use Rattle.model.proofs.Chains.{same_true, smaller_left, smaller_right}
+use Rattle.model.specs.Graphs.{RoleGraph, Sound, same_link, falls, takes_level, takes_link, with_level, with_link, without_link}
+use Rattle.model.proofs.Chains.{same_true, smaller_right}
 use Rattle.model.proofs.LinkCounts.{count_more, count_less}
 
 none_some : {A : Type 0} (n : ℕ) → None ≡ Some n → A
-none_some n e = let z : ◌≡◌ {A = ℕ} 0 1 = cc in absurd (omega arith)
+none_some n e = search rules
 
 -- a link stands only between numbers in range
 pub lower_in_range : (level : ℕ → Option ℕ) → ((r : ℕ) → 64 ≤ r → level r ≡ None) → (p : Principal) (r : ℕ) → falls level p r ≡ true → r < 64
-lower_in_range level b p r f =
-    ⊎_elim (λ (q : r < 64). q) (λ (q : 64 ≤ r). absurd (smaller_left _ _ f (b r q))) (cases_lt r 64)
+lower_in_range level b p r f = search rules
 
 pub upper_in_range : (level : ℕ → Option ℕ) → ((r : ℕ) → 64 ≤ r → level r ≡ None) → (p : Principal) (r : ℕ) → falls level p r ≡ true → in_range p ≡ true
 upper_in_range level b (User n) r f = in_case (ltb n 64) (smaller_right (level r) (user_level n) f)
@@ -24,24 +22,15 @@ upper_in_range level b (User n) r f = in_case (ltb n 64) (smaller_right (level r
     in_case : (t : Bool) → (m : ℕ) × (cond t (Some 8) None ≡ Some m) → t ≡ true
     in_case true h = refl
     in_case false h = none_some h.0 h.1
-upper_in_range level b (Role n) r f =
-    let h = smaller_right (level r) (level n) f in
-    ⊎_elim (λ (q : n < 64). lt-ltb n 64 q) (λ (q : 64 ≤ n). none_some h.0 (sym (b n q) ∙ h.1)) (cases_lt n 64)
+upper_in_range level b (Role n) r f = search rules
 
 pub record TakesLevel (g : RoleGraph) (r n : ℕ) : Type 0 where
   pub role : r < 64
   pub low : n < 8
   pub none : g.level r ≡ None
 
-vacant_none : (o : Option ℕ) → vacant o ≡ true → o ≡ None
-vacant_none None e = refl
-vacant_none (Some n) e = absurd (clash e)
-
 pub level_taken : (g : RoleGraph) (r n : ℕ) → takes_level g r n ≡ true → TakesLevel g r n
-level_taken g r n e =
-    let a = and_parts _ _ e in
-    let b = and_parts _ _ a.1 in
-    record { role = ltb-true r 64 a.0; low = ltb-true n 8 b.0; none = vacant_none _ b.1 }
+level_taken g r n e = search rules
 
 pub record TakesLink (full : Bool) (g : RoleGraph) (p : Principal) (r : ℕ) : Type 0 where
   pub memory : full ≡ true
@@ -52,39 +41,15 @@ pub record TakesLink (full : Bool) (g : RoleGraph) (p : Principal) (r : ℕ) : T
   pub few : link_count g.linked < 256
 
 pub link_taken : (full : Bool) (g : RoleGraph) (p : Principal) (r : ℕ) → Sound g → takes_link full g p r ≡ true → TakesLink full g p r
-link_taken full g p r s e =
-    let a = and_parts _ _ e in
-    let b = and_parts _ _ a.0 in
-    let c = and_parts _ _ b.0 in
-    record {
-      memory = c.0;
-      upper = upper_in_range g.level s.roles_in_range p r c.1;
-      lower = lower_in_range g.level s.roles_in_range p r c.1;
-      fall = c.1;
-      absent = not-true _ b.1;
-      few = ltb-true _ _ a.1;
-    }
-
-smaller_kept : (a b a' b' : Option ℕ) → ((m : ℕ) → a ≡ Some m → a' ≡ Some m) → ((m : ℕ) → b ≡ Some m → b' ≡ Some m) → smaller a b ≡ true → smaller a' b' ≡ true
-smaller_kept (Some m) (Some n) a' b' h g e = ap (λ x. smaller x b') (h m refl) ∙ ap (λ x. smaller (Some m) x) (g n refl) ∙ e
-smaller_kept (Some m) None a' b' h g e = absurd (clash e)
-smaller_kept None (Some n) a' b' h g e = absurd (clash e)
-smaller_kept None None a' b' h g e = absurd (clash e)
+link_taken full g p r s e = search rules
 
 -- a level that stands stays
 module _ (g : RoleGraph) (r n : ℕ) (v : g.level r ≡ None) where
   level_kept : (k m : ℕ) → g.level k ≡ Some m → (with_level g r n).level k ≡ Some m
-  level_kept k m e =
-      let ne : r ≡ k → ⊥ = λ z. none_some m (sym v ∙ ap g.level z ∙ e) in
-      ap (λ b. cond b (Some n) (g.level k)) (ne_eqb r k ne) ∙ e
-
-  level_of_kept : (p : Principal) (m : ℕ) → level_of g.level p ≡ Some m → level_of (with_level g r n).level p ≡ Some m
-  level_of_kept (User i) m e = e
-  level_of_kept (Role i) m e = level_kept i m e
+  level_kept k m e = search rules
 
   falls_kept : (p : Principal) (k : ℕ) → falls g.level p k ≡ true → falls (with_level g r n).level p k ≡ true
-  falls_kept p k f =
-      smaller_kept (g.level k) (level_of g.level p) _ _ (λ m e. level_kept k m e) (λ m e. level_of_kept p m e) f
+  falls_kept p k f = search rules
 
 pub sound_with_level : (g : RoleGraph) (r n : ℕ) → Sound g → takes_level g r n ≡ true → Sound (with_level g r n)
 sound_with_level g r n s e =

@@ -38,10 +38,7 @@ pub trait Scale: Copy {
     fn granted() -> Self
         ensures { result ≡ states.granted }
     {
-        match Self::assigned(StateCommand::Grant) {
-            Some(state) => state,
-            None => unreachable(),
-        }
+        Self::assigned(StateCommand::Grant).unwrap()
     }
 
     // Whether the states are equal.
