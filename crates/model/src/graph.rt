@@ -12,8 +12,6 @@ pub trait Graph {
     // Whether the graph has its full memory.
     ghost full: { Self → Bool };
 
-    ghost sound: { (s : Self) → Sound (meaning s) };
-
     // Gives a level to a role that has none.
     fn give_level(&mut self, role: u8, level: u8) -> bool
         ensures answer { result ≡ takes_level (meaning self.old) role level }
@@ -62,4 +60,7 @@ pub trait Graph {
         }
         self.reaches(Principal::Role(upper), Principal::Role(lower))
     }
+
+    // What every graph keeps.
+    ghost sound: { (s : Self) → Sound (meaning s) };
 }
