@@ -23,12 +23,12 @@ no_rows n =
     fun_ext (λ p. fun_ext (λ k.
     ap (λ b. (in_range p && ltb k 64) && b) (ap (λ x. bit_at x k) (replicate_at 0 n (row_of p)) ∙ no_bit k) ∙ and-false (in_range p && ltb k 64)))
 
-pub no_levels : (n : ℕ) → level_in (replicate n None) ≡ (λ _. None)
-no_levels n = fun_ext (λ k. replicate_at None n k)
+pub no_levels : (levels : List (Option ℕ)) → levels ≡ replicate 64 None → level_in levels ≡ new_graph.level
+no_levels levels e = ap level_in e ∙ fun_ext (λ k. replicate_at None 64 k)
 
-pub none_low : (n : ℕ) → Low (replicate n None)
-none_low n k m e =
-    let a : None ≡ Some m = sym (replicate_at None n k) ∙ e in let z : ◌≡◌ {A = ℕ} 0 1 = cc in absurd (omega arith)
+pub none_low : (levels : List (Option ℕ)) → levels ≡ replicate 64 None → Low levels
+none_low levels e k m h =
+    let a : None ≡ Some m = sym (ap (λ l. level_in l k) e ∙ replicate_at None 64 k) ∙ h in let z : ◌≡◌ {A = ℕ} 0 1 = cc in absurd (omega arith)
 
 -- with no links
 pub none_kept : (levels : List (Option ℕ)) (linked : Principal → ℕ → Bool) → linked ≡ (λ _ _. false) → Kept levels linked 0

@@ -1,5 +1,5 @@
 // The levels of the roles, which both graphs keep.
-ghost use Rattle.std.specs.Prelude.{◌≡◌, ℕ, length, Bool, if◌then◌else◌};
+ghost use Rattle.std.specs.Prelude.{◌≡◌, ℕ, None as NoLevel, length, replicate, Bool, if◌then◌else◌};
 ghost use Rattle.model.specs.declared.principal.Principal.{Principal};
 ghost use Rattle.model.specs.Graphs.{new_graph, level_of, falls as falls_to, takes_level, with_level};
 ghost use Rattle.graphs.specs.Levels.{level_in, on_level, graph_of, Low};
@@ -13,13 +13,19 @@ pub(crate) struct Levels {
     ghost low: { Low of_roles },
 }
 
+fn no_levels() -> [Option<u8>; 64]
+    ensures { result ≡ replicate 64 NoLevel }
+{
+    [None; 64]
+}
+
 impl Levels {
     // No role has a level.
     pub(crate) fn new() -> Levels
         ensures { level_in result.of_roles ≡ new_graph.level }
     {
         Levels {
-            of_roles: [None; 64],
+            of_roles: no_levels(),
         }
     }
 

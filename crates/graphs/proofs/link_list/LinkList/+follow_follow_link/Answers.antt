@@ -50,4 +50,4 @@ follow-returns-clause-complete t c =
 pub follow_link-returns-clause-complete : goal.follow_link-returns-clause-complete
 follow_link-returns-clause-complete t c =
     let s = c.args.self.now in
-    follows_first s.links.now s.len _ c.args.to c.follow.result c.follow.ensures.itself c.follow.ensures.complete
+    follows_first s.links.now s.len _ c.args.to c.follow.result c.follow.ensures.itself (λ k l. c.follow.ensures.complete k (omega arith))
