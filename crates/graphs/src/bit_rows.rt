@@ -1,11 +1,11 @@
 // A role graph as rows of bits: for each of the 128 principals the roles that its links lead to.
-ghost use Rattle.std.specs.Prelude.{◌≡◌, ℕ, ◌<◌, true, ◌&&◌, ◌||◌, length, nat_lt, slice_index};
+ghost use Rattle.std.specs.Prelude.{◌≡◌, ℕ, ◌<◌, true, ◌&&◌, ◌||◌, length, slice_index};
 ghost use Rattle.model.specs.Principals.{in_range};
 ghost use Rattle.graphs.specs.Levels.{Kept};
 ghost use Rattle.graphs.specs.Rows.{row_of, in_rows, bit_at, some_below, leads, Below};
 
 use crate::levels::Levels;
-use crate::link::has_room;
+use crate::link::{Link, has_room};
 use crate::role_set::RoleSet;
 use model::graph::Graph;
 use model::principal::{Principal, ROLES};
@@ -31,13 +31,6 @@ fn row_of(principal: Principal) -> usize
     }
 }
 
-// Whether the rows have a bit for the link.
-fn is_in_table(upper: Principal, lower: u8) -> bool
-    ensures { result ≡ in_range upper && nat_lt lower 64 }
-{
-    upper.is_in_range() && lower < ROLES
-}
-
 impl BitRows {
     ghost use Rattle.model.specs.Graphs.{new_graph, takes_link, with_link, without_link};
     ghost use Rattle.graphs.specs.Meanings.{rows_graph};
@@ -53,10 +46,10 @@ impl BitRows {
         }
     }
 
-    fn takes_link(&self, upper: Principal, lower: u8) -> bool
-        ensures { result ≡ takes_link true (rows_graph self.now) upper lower }
+    fn takes_link(&self, link: Link) -> bool
+        ensures { result ≡ takes_link true (rows_graph self.now) link.upper link.lower }
     {
-        self.levels.falls(upper, lower) && !self.linked(upper, lower) && has_room(self.len)
+        self.levels.falls(link) && !self.linked(link.upper, link.lower) && has_room(self.len)
     }
 
     // The roles that the links of a principal lead to.
@@ -67,19 +60,19 @@ impl BitRows {
         self.rows[row_of(principal)]
     }
 
-    fn put(&mut self, upper: Principal, lower: u8)
-        requires { takes_link true (rows_graph self.old) upper lower ≡ true }
-        ensures { rows_graph self.new ≡ with_link (rows_graph self.old) upper lower }
+    fn put(&mut self, link: Link)
+        requires { takes_link true (rows_graph self.old) link.upper link.lower ≡ true }
+        ensures { rows_graph self.new ≡ with_link (rows_graph self.old) link.upper link.lower }
     {
-        self.rows[row_of(upper)] = self.row(upper).with(lower);
+        self.rows[row_of(link.upper)] = self.row(link.upper).with(link.lower);
         self.len += 1;
     }
 
-    fn take_out(&mut self, upper: Principal, lower: u8)
-        requires { in_rows self.old.rows upper lower ≡ true }
-        ensures { rows_graph self.new ≡ without_link (rows_graph self.old) upper lower }
+    fn take_out(&mut self, link: Link)
+        requires { in_rows self.old.rows link.upper link.lower ≡ true }
+        ensures { rows_graph self.new ≡ without_link (rows_graph self.old) link.upper link.lower }
     {
-        self.rows[row_of(upper)] = self.row(upper).without(lower);
+        self.rows[row_of(link.upper)] = self.row(link.upper).without(link.lower);
         self.len -= 1;
     }
 
@@ -138,9 +131,10 @@ impl Graph for BitRows {
     }
 
     fn add(&mut self, upper: Principal, lower: u8) -> bool {
-        let takes = self.takes_link(upper, lower);
+        let link = Link { upper, lower };
+        let takes = self.takes_link(link);
         if takes {
-            self.put(upper, lower);
+            self.put(link);
         }
         takes
     }
@@ -148,13 +142,14 @@ impl Graph for BitRows {
     fn cut(&mut self, upper: Principal, lower: u8) -> bool {
         let linked = self.linked(upper, lower);
         if linked {
-            self.take_out(upper, lower);
+            self.take_out(Link { upper, lower });
         }
         linked
     }
 
     fn linked(&self, upper: Principal, lower: u8) -> bool {
-        is_in_table(upper, lower) && self.row(upper).contains(lower)
+        let link = Link { upper, lower };
+        link.is_in_range() && self.row(upper).contains(lower)
     }
 
     fn count(&self) -> usize {

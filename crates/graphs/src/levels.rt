@@ -4,6 +4,7 @@ ghost use Rattle.model.specs.declared.principal.Principal.{Principal};
 ghost use Rattle.model.specs.Graphs.{new_graph, level_of, falls as falls_to, takes_level, with_level};
 ghost use Rattle.graphs.specs.Levels.{level_in, on_level, graph_of, Low};
 
+use crate::link::Link;
 use model::principal::{Principal, ROLES, is_role_level, user_level};
 
 #[derive(Drop)]
@@ -51,10 +52,10 @@ impl Levels {
     }
 
     // Whether both ends of a link exist and the level falls along it.
-    pub(crate) fn falls(&self, upper: Principal, lower: u8) -> bool
-        ensures { result ≡ falls_to (level_in self.now.of_roles) upper lower }
+    pub(crate) fn falls(&self, link: Link) -> bool
+        ensures { result ≡ falls_to (level_in self.now.of_roles) link.upper link.lower }
     {
-        match (self.of_role(lower), self.of(upper)) {
+        match (self.of_role(link.lower), self.of(link.upper)) {
             (Some(low), Some(high)) => low < high,
             _ => false,
         }

@@ -1,8 +1,9 @@
 // Links between principals and roles.
-ghost use Rattle.std.specs.Prelude.{◌≡◌, nat_lt};
+ghost use Rattle.std.specs.Prelude.{◌≡◌, ◌&&◌, nat_lt};
+ghost use Rattle.model.specs.Principals.{in_range};
 ghost use Rattle.graphs.specs.Records.{link};
 
-use model::principal::Principal;
+use model::principal::{Principal, ROLES};
 
 // The most links that a graph holds.
 pub const LINKS: usize = 256;
@@ -19,6 +20,13 @@ impl Link {
         ensures { result ≡ link upper lower }
     {
         Link { upper, lower }
+    }
+
+    // Whether there can be such principals.
+    pub(crate) fn is_in_range(self) -> bool
+        ensures { result ≡ in_range self.upper && nat_lt self.lower 64 }
+    {
+        self.upper.is_in_range() && self.lower < ROLES
     }
 }
 

@@ -36,12 +36,12 @@ impl<'a> LinkList<'a> {
         }
     }
 
-    fn takes_link(&self, upper: Principal, lower: u8) -> bool
-        ensures { result ≡ takes_link (list_full self.now) (list_graph self.now) upper lower }
+    fn takes_link(&self, link: Link) -> bool
+        ensures { result ≡ takes_link (list_full self.now) (list_graph self.now) link.upper link.lower }
     {
         self.has_full_memory()
-            && self.levels.falls(upper, lower)
-            && !self.linked(upper, lower)
+            && self.levels.falls(link)
+            && self.position(link).is_none()
             && has_room(self.len)
     }
 
@@ -124,9 +124,10 @@ impl<'a> Graph for LinkList<'a> {
     }
 
     fn add(&mut self, upper: Principal, lower: u8) -> bool {
-        let takes = self.takes_link(upper, lower);
+        let link = Link { upper, lower };
+        let takes = self.takes_link(link);
         if takes {
-            self.put(Link { upper, lower });
+            self.put(link);
         }
         takes
     }

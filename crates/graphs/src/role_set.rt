@@ -1,4 +1,5 @@
-// Sets of roles.
+// Sets of roles. Crate `bits` reads and writes words of 32 bits: a trait over both widths would only
+// say each of these expressions once more in each of its two impls.
 ghost use Rattle.std.specs.Prelude.{◌≡◌, ℕ, ◌<◌, not, ◌&&◌, ◌||◌, ◌==◌};
 ghost use Rattle.graphs.specs.Rows.{bit_at};
 

@@ -9,10 +9,10 @@ use Rattle.graphs.proofs.bit_rows.BitRows.put.Goals as goal
 pub invariant_of-self : goal.invariant_of-self
 invariant_of-self c =
     let s = c.args.self.now in
-    let e = rows_put s c.args.upper c.args.lower c.row_of.result c.with.result c.row.result c.requires c.row_of.ensures.row c.row.ensures c.with.ensures in
-    record { wide = simp length-set s.wide; kept = link_kept s.levels.of_roles (in_rows s.rows) s.len (rows_sound s) s.kept true c.args.upper c.args.lower _ c.requires e }
+    let e = rows_put s c.args.link.upper c.args.link.lower c.row_of.result c.with.result c.row.result c.requires c.row_of.ensures.row c.row.ensures c.with.ensures in
+    record { wide = simp length-set s.wide; kept = link_kept s.levels.of_roles (in_rows s.rows) s.len (rows_sound s) s.kept true c.args.link.upper c.args.link.lower _ c.requires e }
 
 pub returns : goal.returns
 returns c =
     let s = c.args.self.now in
-    ap (graph_of s.levels.of_roles) (rows_put s c.args.upper c.args.lower c.row_of.result c.with.result c.row.result c.requires c.row_of.ensures.row c.row.ensures c.with.ensures)
+    ap (graph_of s.levels.of_roles) (rows_put s c.args.link.upper c.args.link.lower c.row_of.result c.with.result c.row.result c.requires c.row_of.ensures.row c.row.ensures c.with.ensures)
