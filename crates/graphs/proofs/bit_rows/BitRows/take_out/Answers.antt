@@ -4,11 +4,8 @@ use Rattle.graphs.specs.Levels.{graph_of}
 use Rattle.graphs.specs.Rows.{in_rows}
 use Rattle.graphs.specs.Meanings.{rows_graph, rows_sound}
 use Rattle.graphs.proofs.LevelTables.{cut_kept}
-use Rattle.graphs.proofs.RowTables.{row_parts, rows_taken_out}
+use Rattle.graphs.proofs.RowTables.{rows_taken_out}
 use Rattle.graphs.proofs.bit_rows.BitRows.take_out.Goals as goal
-
-pub row-requires : goal.row-requires
-row-requires c = (row_parts c.args.self.now.rows c.args.link.upper c.args.link.lower c.requires).0
 
 pub overflow_sub-self : goal.overflow_sub-self
 overflow_sub-self c =
