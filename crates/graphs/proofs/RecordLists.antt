@@ -49,13 +49,13 @@ held_set xs (suc n) i x p k l =
     ap (λ y. is_link y p k || held (set xs i x) n p k) b ∙ ap (λ y. is_link (at_place xs n) p k || y) a
 
 -- one record more
-held_push : (xs : List Link) (n : ℕ) (u : Principal) (r : ℕ) → n < length xs → held (set xs n (link u r)) (n + 1) ≡ (λ p k. same_link u r p k || held xs n p k)
+pub held_push : (xs : List Link) (n : ℕ) (u : Principal) (r : ℕ) → n < length xs → held (set xs n (link u r)) (n + 1) ≡ (λ p k. same_link u r p k || held xs n p k)
 held_push xs n u r l =
     rw add-one (fun_ext (λ p. fun_ext (λ k.
     ap (λ y. is_link y p k || held (set xs n (link u r)) n p k) (get_or-set_same xs n (link u r) no_link l)
     ∙ ap (λ y. same_link u r p k || y) (held_set xs n n (link u r) p k (omega arith)))))
 
-distinct_push : (xs : List Link) (n : ℕ) (u : Principal) (r : ℕ) → n < length xs → Distinct xs n → held xs n u r ≡ false → Distinct (set xs n (link u r)) (n + 1)
+pub distinct_push : (xs : List Link) (n : ℕ) (u : Principal) (r : ℕ) → n < length xs → Distinct xs n → held xs n u r ≡ false → Distinct (set xs n (link u r)) (n + 1)
 distinct_push xs n u r l d f j lj =
     ⊎_elim
     (λ (q : j ≡ n).
@@ -171,12 +171,3 @@ position_held xs n x None l h =
     absurd (h s.0 no_link (omega arith) (omega (arith, s.1, length-take-le n xs l)) (get_or-take n xs s.0 no_link s.1 ∙ s.2)))
     (λ (q : held xs n x.upper x.lower ≡ false). sym q)
     (cases_Bool _)
-
--- a record that is the link from u to r, put at the end
-pub pushed : (xs : List Link) (n : ℕ) (u : Principal) (r : ℕ) (x : Link) → n < length xs → x ≡ link u r → held (set xs n x) (n + 1) ≡ (λ p k. same_link u r p k || held xs n p k)
-pushed xs n u r x l e = ap (λ y. held (set xs n y) (n + 1)) e ∙ held_push xs n u r l
-
-pub pushed_distinct : (xs : List Link) (n : ℕ) (u : Principal) (r : ℕ) (x : Link) → n < length xs → x ≡ link u r → Distinct xs n → held xs n u r ≡ false → Distinct (set xs n x) (n + 1)
-pushed_distinct xs n u r x l e d f =
-    let P : Link → Type 0 = λ y. Distinct (set xs n y) (n + 1) in
-    subst P (sym e) (distinct_push xs n u r l d f)

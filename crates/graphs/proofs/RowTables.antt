@@ -99,10 +99,6 @@ row_parts rows p k e =
 pub in_table : (p : Principal) (k : ℕ) → (in_range p && ltb k 64) ≡ true → (in_range p ≡ true) × (k < 64)
 in_table p k e = let a = and_parts _ _ e in (a.0, ltb-true k 64 a.1)
 
-pub row_outside : (rows : List ℕ) (p : Principal) (k : ℕ) → (in_range p && ltb k 64) ≡ false → in_rows rows p k ≡ false
-unfolding in_rows
-row_outside rows p k e = ap (λ b. b && bit_at (get_or rows (row_of p) 0) k) e
-
 -- the rows after a link is put, and after one is taken out
 pub rows_put : (s : BitRows) (u : Principal) (r i x y : ℕ) → takes_link true (rows_graph s) u r ≡ true → i ≡ row_of u → y ≡ get_or s.rows (row_of u) 0 → ((j : ℕ) → bit_at x j ≡ (eqb r j || bit_at y j))
     → in_rows (set s.rows i x) ≡ (with_link (rows_graph s) u r).linked
