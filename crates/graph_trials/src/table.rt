@@ -1,4 +1,7 @@
 // The lines of a table of calls, as `add u5 r3`.
+ghost use Rattle.std.specs.Prelude.{◌≡◌, Some, codes};
+ghost use Rattle.graph_trials.specs.declared.call.Call.TheVariants.{AskCount, AskMemory};
+
 use crate::call::Call;
 use model::principal::Principal;
 use std::fmt;
@@ -15,7 +18,11 @@ impl fmt::Display for NoCall {
 }
 
 impl FromStr for Call {
+    ghost use Rattle.std.specs.Prelude.{Ok};
+
     type Err = NoCall;
+
+    ghost from_str_gives = { λ s r. (s ≡ codes "count" → r ≡ Ok AskCount) × (s ≡ codes "memory" → r ≡ Ok AskMemory) };
 
     fn from_str(line: &str) -> Result<Call, NoCall> {
         call(line).ok_or(NoCall)
@@ -45,7 +52,10 @@ fn call_of_two(verb: &str, first: &str, second: &str) -> Option<Call> {
     }
 }
 
-fn call(line: &str) -> Option<Call> {
+fn call(line: &str) -> Option<Call>
+    ensures count { line.now ≡ codes "count" → result ≡ Some AskCount }
+    ensures memory { line.now ≡ codes "memory" → result ≡ Some AskMemory }
+{
     match line {
         "count" => Some(Call::AskCount),
         "memory" => Some(Call::AskMemory),
