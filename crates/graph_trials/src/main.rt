@@ -22,24 +22,22 @@ fn print_answers(rt: &HostRuntime, text: &str) -> anyhow::Result<()> {
     let mut rows = BitRows::new();
     let mut list = LinkList::new(&mut memory);
     for line in text.lines() {
-        match table::call(line) {
-            Some(call) => match tell_both(&mut rows, &mut list, call) {
+        match line.parse::<Call>() {
+            Ok(call) => match tell_both(&mut rows, &mut list, call) {
                 Some(told) => println!(rt; "{line}: {told}")?,
                 None => println!(rt; "{line}: the graphs differ")?,
             },
-            None => println!(rt; "{line}: no call")?,
+            Err(no_call) => println!(rt; "{line}: {no_call}")?,
         }
     }
     Ok(())
 }
 
 fn all_calls(rt: &HostRuntime, text: &str) -> anyhow::Result<Vec<Call>> {
-    let mut calls = Vec::new(rt.alloc());
-    for line in text.lines() {
-        if let Some(call) = table::call(line) {
-            calls.push(call)?;
-        }
-    }
+    let calls = text
+        .lines()
+        .filter_map(|line| line.parse::<Call>().ok())
+        .collect(rt.alloc())?;
     Ok(calls)
 }
 
@@ -72,6 +70,5 @@ fn run(rt: &HostRuntime) -> anyhow::Result<()> {
 }
 
 fn main(rt: HostRuntime) -> anyhow::Result<()> {
-    let ran = run(&rt);
-    ran
+    run(&rt)
 }

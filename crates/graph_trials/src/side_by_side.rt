@@ -6,7 +6,7 @@ use crate::call::{Call, Told};
 use graphs::{BitRows, Link, LinkList};
 use model::graph::Graph;
 
-// Makes one call.
+// Makes one call. Calls are data, read as lines of text, so that there is a case for each.
 pub fn tell<G: Graph>(graph: &mut G, call: Call) -> Told
     ensures answer { Tells (G.Graph.full graph.old) (G.Graph.meaning graph.old) call result }
     ensures after { G.Graph.meaning graph.new ≡ after_call (G.Graph.full graph.old) (G.Graph.meaning graph.old) call }
@@ -34,13 +34,14 @@ pub fn tell_both<G: Graph, H: Graph>(one: &mut G, other: &mut H, call: Call) -> 
 {
     let first = tell(one, call);
     let second = tell(other, call);
-    if first == second { Some(first) } else { None }
+    (first == second).then_some(first)
 }
 
 // Whether two graphs tell the same at each of the calls. Graphs that mean the same do.
 pub fn tell_alike<G: Graph, H: Graph>(one: &mut G, other: &mut H, calls: &[Call]) -> bool
     ensures { G.Graph.meaning one.old ≡ H.Graph.meaning other.old → G.Graph.full one.old ≡ H.Graph.full other.old → result ≡ true }
 {
+    // No `all`: its closure would change both graphs, and the proof would know nothing of them.
     for call in calls {
         if tell_both(one, other, *call).is_none() {
             return false;

@@ -1,31 +1,49 @@
 -- The roles below a principal, found level by level from the top.
-use Rattle.std.proofs.Common.{◌≡◌, ℕ, ◌+◌, ◌-◌, ◌<◌, ◌≤◌, Bool, true, ◌&&◌, ◌||◌, ◌⊎◌, List, get_or, Some, None, Decides, Option, sym, refl, ap, ◌∙◌, subst, inl, inr, ⊎_elim, add-one, arith, ltb-true, lt-ltb, eq-eqb, eqb-true}
-use mathlib.Core.Bool.{or_assoc}
-use lib.Bits.{bit_or}
+use Rattle.std.proofs.Common.{◌≡◌, ℕ, ◌+◌, ◌-◌, ◌<◌, ◌≤◌, Bool, true, false, ◌&&◌, ◌||◌, ◌⊎◌, List, [], ◌∷◌, ◌++◌, get_or, Some, None, Decides, Option, sym, refl, ap, ◌∙◌, subst, inl, inr, ⊎_elim, arith, ltb-true, lt-ltb, eq-eqb, eqb-true}
 use borrow.Author.Tests.{clash}
+use Rattle.std.specs.List.{list_any, range_with_len}
+use Rattle.std.proofs.lemmas.List.Folds.{list_any-append, list_any_at, Any-from_list_any}
+use Rattle.std.proofs.lemmas.List.FromFn.{length-range_with_len, get_or-range_with_len}
 use Rattle.std.proofs.lemmas.Bool.{and_parts, and_from, or_cases, or_left, or_right, cases_lt}
-use Rattle.std.proofs.lemmas.Bool.Decides.{Decides-below_or}
 use Rattle.model.specs.declared.principal.Principal.{Principal}
 use Rattle.model.specs.declared.principal.Principal.TheVariants.{User, Role}
 use Rattle.model.specs.Principals.{in_range}
 use Rattle.model.specs.Graphs.{Chain, stay, via}
 use Rattle.model.proofs.Chains.{first_link, joined, no_chain_to_user, smaller_less, smaller_right}
-use Rattle.graphs.specs.Levels.{level_in, on_level, Falling}
+use Rattle.graphs.specs.Levels.{level_in, on_level, Low, Falling}
 use Rattle.graphs.specs.Rows.{bit_at, row_of, in_rows, some_below, leads, Below}
-use Rattle.graphs.proofs.SingleBits.{or_bit}
+use Rattle.graphs.proofs.SingleBits.{no_bit}
 use Rattle.graphs.proofs.RowTables.{row_parts, row_read}
 
 -- the row of one role
-pub row_leads : (levels : List (Option ℕ)) (rows : List ℕ) (set k n j x : ℕ) (t : Bool) → k < 64 → j < 64 → t ≡ (bit_at set k && on_level (level_in levels k) n) → bit_at x j ≡ (t && bit_at (get_or rows (64 + k) 0) j) → bit_at x j ≡ leads levels rows set n j k
+pub row_leads : (levels : List (Option ℕ)) (rows : List ℕ) (set k n j x : ℕ) → k < 64 → j < 64 → bit_at set k ≡ true → on_level (level_in levels k) n ≡ true → x ≡ get_or rows (64 + k) 0 → bit_at x j ≡ leads levels rows set n j k
 unfolding leads
-row_leads levels rows set k n j x t l m e h =
-    h ∙ ap (λ b. b && bit_at (get_or rows (64 + k) 0) j) e ∙ ap (λ b. (bit_at set k && on_level (level_in levels k) n) && b) (row_read rows (Role k) j (lt-ltb k 64 l) m)
+row_leads levels rows set k n j x l m a b e =
+    ap (λ y. bit_at y j) e ∙ row_read rows (Role k) j (lt-ltb k 64 l) m ∙ sym (ap (λ y. y && in_rows rows (Role k) j) (and_from _ _ a b))
 
--- one turn of the union
-pub union_more : (f : ℕ → Bool) (out x set k j : ℕ) → bit_at x j ≡ f k → bit_at out j ≡ (some_below f k || bit_at set j) → bit_at (bit_or out x) j ≡ (some_below f (k + 1) || bit_at set j)
-unfolding some_below
-union_more f out x set k j e h =
-    rw add-one (or_bit out x j ∙ ap (λ b. b || bit_at out j) e ∙ ap (λ b. f k || b) h ∙ sym (or_assoc (f k) (some_below f k) (bit_at set j)))
+-- no row
+pub leads_none : (levels : List (Option ℕ)) (rows : List ℕ) (set k n j x : ℕ) → (bit_at set k ≡ false) ⊎ (on_level (level_in levels k) n ≡ false) → x ≡ 0 → bit_at x j ≡ leads levels rows set n j k
+unfolding leads
+leads_none levels rows set k n j x h e =
+    ap (λ y. bit_at y j) e ∙ no_bit j ∙ sym (ap (λ b. b && in_rows rows (Role k) j) (neither _ _ h))
+  where
+    neither : (a b : Bool) → (a ≡ false) ⊎ (b ≡ false) → (a && b) ≡ false
+    neither true b (inl e) = absurd (clash (sym e))
+    neither true b (inr e) = e
+    neither false b h = refl
+
+-- one role more in a union of rows
+pub union_more : (levels : List (Option ℕ)) (rows : List ℕ) (set n a b x k j : ℕ) (ks : List ℕ) → bit_at b j ≡ (bit_at x j || bit_at a j) → bit_at x j ≡ leads levels rows set n j k
+    → bit_at a j ≡ (list_any (leads levels rows set n j) ks || bit_at set j) → bit_at b j ≡ (list_any (leads levels rows set n j) (ks ++ k ∷ []) || bit_at set j)
+union_more levels rows set n a b x k j ks g e h =
+    let f = leads levels rows set n j in
+    g ∙ ap (λ y. y || bit_at a j) e ∙ ap (λ y. f k || y) h ∙ turned (f k) (list_any f ks) (bit_at set j) ∙ ap (λ y. y || bit_at set j) (sym (list_any-append f ks (k ∷ [])))
+  where
+    turned : (a b c : Bool) → (a || (b || c)) ≡ ((b || (a || false)) || c)
+    turned true true c = refl
+    turned true false c = refl
+    turned false true c = refl
+    turned false false c = refl
 
 level_found : (o : Option ℕ) (n : ℕ) → on_level o n ≡ true → o ≡ Some n
 level_found None n e = absurd (clash e)
@@ -47,33 +65,38 @@ leads_from levels rows set n j k a b c = and_from _ _ (and_from _ _ a (on_level_
 
 some_decided : (f : ℕ → Bool) (n : ℕ) → Decides (some_below f n) ((i : ℕ) × (i < n) × (f i ≡ true))
 unfolding some_below
-some_decided f n = Decides-below_or f (λ i. f i ≡ true) (some_below f) (λ i. ((λ x. x), (λ x. x))) refl (λ _. refl) n
+some_decided f n = (
+  (λ e.
+      let a = Any-from_list_any f (range_with_len 0 n) e in
+      let l : a.0 < n = omega (arith, a.2, length-range_with_len 0 n) in
+      let q : a.0 ≡ a.1 = omega (arith, get_or-range_with_len 0 n a.0 a.1 l, a.3) in
+      (a.0, l, ap f q ∙ a.4)),
+  (λ i.
+      let q : get_or (range_with_len 0 n) i.0 0 ≡ i.0 = omega (arith, get_or-range_with_len 0 n i.0 0 i.1) in
+      list_any_at f (range_with_len 0 n) i.0 0 (omega (arith, i.1, length-range_with_len 0 n)) (ap f q ∙ i.2)),
+)
 
-pub some_none : (f : ℕ → Bool) (b : Bool) → b ≡ (some_below f 0 || b)
-unfolding some_below
-some_none f b = refl
-
--- what holds after some of the levels, from the top: s is the set at first
-pub record Found (levels : List (Option ℕ)) (rows : List ℕ) (s set done : ℕ) : Type 0 where
+-- what holds once the levels from `from` up are done: s is the set at first
+pub record Found (levels : List (Option ℕ)) (rows : List ℕ) (s set from : ℕ) : Type 0 where
   pub base : (j : ℕ) → j < 64 → bit_at s j ≡ true → bit_at set j ≡ true
   pub sound : (k : ℕ) → k < 64 → bit_at set k ≡ true → (j : ℕ) × (j < 64) × (bit_at s j ≡ true) × Chain (in_rows rows) (Role j) (Role k)
-  pub closed : (k n j : ℕ) → level_in levels k ≡ Some n → 8 ≤ n + done → k < 64 → bit_at set k ≡ true → in_rows rows (Role k) j ≡ true → bit_at set j ≡ true
+  pub closed : (k n j : ℕ) → level_in levels k ≡ Some n → from ≤ n → k < 64 → bit_at set k ≡ true → in_rows rows (Role k) j ≡ true → bit_at set j ≡ true
 
-pub found_none : (levels : List (Option ℕ)) (rows : List ℕ) (s : ℕ) → ((k n : ℕ) → level_in levels k ≡ Some n → n < 8) → Found levels rows s s 0
+pub found_none : (levels : List (Option ℕ)) (rows : List ℕ) (s : ℕ) → Low levels → Found levels rows s s 8
 found_none levels rows s low = record {
   base = λ j l b. b;
   sound = λ k l b. (k, l, b, stay (Role k));
   closed = λ k n j e g l b h. absurd (omega (arith, low k n e));
 }
 
-pub found_more : (levels : List (Option ℕ)) (rows : List ℕ) (s set done out : ℕ) → Falling levels (in_rows rows) → done < 8
-    → ((j : ℕ) → j < 64 → bit_at out j ≡ (some_below (leads levels rows set (7 - done) j) 64 || bit_at set j)) → Found levels rows s set done → Found levels rows s out (done + 1)
-found_more levels rows s set done out fall ld e h = record {
+pub found_more : (levels : List (Option ℕ)) (rows : List ℕ) (s set from out : ℕ) → Falling levels (in_rows rows) → 0 < from
+    → ((j : ℕ) → j < 64 → bit_at out j ≡ (some_below (leads levels rows set (from - 1) j) 64 || bit_at set j)) → Found levels rows s set from → Found levels rows s out (from - 1)
+found_more levels rows s set from out fall lf e h = record {
   base = λ j l b. kept j l (h.base j l b);
   sound = λ k l b.
       ⊎_elim
-      (λ (o : (i : ℕ) × (i < 64) × (leads levels rows set (7 - done) k i ≡ true)).
-      let p = leads_parts levels rows set (7 - done) k o.0 o.2 in
+      (λ (o : (i : ℕ) × (i < 64) × (leads levels rows set (from - 1) k i ≡ true)).
+      let p = leads_parts levels rows set (from - 1) k o.0 o.2 in
       let w = h.sound o.0 o.1 p.0 in
       (w.0, w.1, w.2, joined w.3 (via (Role o.0) (Role k) k p.2 (stay (Role k)))))
       (λ (o : bit_at set k ≡ true). h.sound k l o)
@@ -82,48 +105,48 @@ found_more levels rows s set done out fall ld e h = record {
       let lj : j < 64 = (row_parts rows (Role k) j r).1 in
       let old : bit_at set k ≡ true =
       ⊎_elim
-      (λ (o : (i : ℕ) × (i < 64) × (leads levels rows set (7 - done) k i ≡ true)).
-      let p = leads_parts levels rows set (7 - done) k o.0 o.2 in
-      let m : n < 7 - done = smaller_less (level_in levels k) (level_in levels o.0) n (7 - done) (fall (Role o.0) k p.2) lv p.1 in
+      (λ (o : (i : ℕ) × (i < 64) × (leads levels rows set (from - 1) k i ≡ true)).
+      let p = leads_parts levels rows set (from - 1) k o.0 o.2 in
+      let m : n < from - 1 = smaller_less (level_in levels k) (level_in levels o.0) n (from - 1) (fall (Role o.0) k p.2) lv p.1 in
       let z : ⊥ = omega arith in absurd z)
       (λ (o : bit_at set k ≡ true). o)
       (origin k l b) in
       ⊎_elim
-      (λ (q : n + done < 8).
-      let m : n ≡ 7 - done = omega arith in
-      got j lj k l (leads_from levels rows set (7 - done) j k old (lv ∙ ap Some m) r))
-      (λ (q : 8 ≤ n + done). kept j lj (h.closed k n j lv q l old r))
-      (cases_lt (n + done) 8);
+      (λ (q : n < from).
+      let m : n ≡ from - 1 = omega arith in
+      got j lj k l (leads_from levels rows set (from - 1) j k old (lv ∙ ap Some m) r))
+      (λ (q : from ≤ n). kept j lj (h.closed k n j lv q l old r))
+      (cases_lt n from);
 }
   where
     kept : (j : ℕ) → j < 64 → bit_at set j ≡ true → bit_at out j ≡ true
     kept j l b = e j l ∙ or_right _ _ b
 
-    got : (j : ℕ) → j < 64 → (k : ℕ) → k < 64 → leads levels rows set (7 - done) j k ≡ true → bit_at out j ≡ true
+    got : (j : ℕ) → j < 64 → (k : ℕ) → k < 64 → leads levels rows set (from - 1) j k ≡ true → bit_at out j ≡ true
     got j l k m b =
-        e j l ∙ or_left _ _ ((some_decided (leads levels rows set (7 - done) j) 64).1 (k, m, b))
+        e j l ∙ or_left _ _ ((some_decided (leads levels rows set (from - 1) j) 64).1 (k, m, b))
 
-    origin : (j : ℕ) → j < 64 → bit_at out j ≡ true → ((i : ℕ) × (i < 64) × (leads levels rows set (7 - done) j i ≡ true)) ⊎ (bit_at set j ≡ true)
+    origin : (j : ℕ) → j < 64 → bit_at out j ≡ true → ((i : ℕ) × (i < 64) × (leads levels rows set (from - 1) j i ≡ true)) ⊎ (bit_at set j ≡ true)
     origin j l b =
         ⊎_elim
-        (λ (o : some_below (leads levels rows set (7 - done) j) 64 ≡ true).
-        inl ((some_decided (leads levels rows set (7 - done) j) 64).0 o))
+        (λ (o : some_below (leads levels rows set (from - 1) j) 64 ≡ true).
+        inl ((some_decided (leads levels rows set (from - 1) j) 64).0 o))
         (λ (o : bit_at set j ≡ true). inr o)
         (or_cases _ _ (sym (e j l) ∙ b))
 
-along : (levels : List (Option ℕ)) (rows : List ℕ) (s set : ℕ) → Falling levels (in_rows rows) → Found levels rows s set 8 → {a b : Principal} → Chain (in_rows rows) a b → (j k : ℕ) → a ≡ Role j → b ≡ Role k → j < 64 → bit_at set j ≡ true → bit_at set k ≡ true
+along : (levels : List (Option ℕ)) (rows : List ℕ) (s set : ℕ) → Falling levels (in_rows rows) → Found levels rows s set 0 → {a b : Principal} → Chain (in_rows rows) a b → (j k : ℕ) → a ≡ Role j → b ≡ Role k → j < 64 → bit_at set j ≡ true → bit_at set k ≡ true
 along levels rows s set fall h (stay a) j k p q l b = let e : j ≡ k = cc in ap (λ i. bit_at set i) (sym e) ∙ b
 along levels rows s set fall h (via a c r e ch) j k p q l b =
     let x : in_rows rows (Role j) r ≡ true = ap (λ y. in_rows rows y r) (sym p) ∙ e in
     let u = smaller_right (level_in levels r) (level_in levels j) (fall (Role j) r x) in
     along levels rows s set fall h ch r k refl q (row_parts rows (Role j) r x).1 (h.closed j u.0 r u.1 (omega arith) l b x)
 
-pub all_sound : (levels : List (Option ℕ)) (rows : List ℕ) (a : Principal) (set : ℕ) → in_range a ≡ true → Found levels rows (get_or rows (row_of a) 0) set 8 → (k : ℕ) → k < 64 → bit_at set k ≡ true → Below (in_rows rows) a k
+pub all_sound : (levels : List (Option ℕ)) (rows : List ℕ) (a : Principal) (set : ℕ) → in_range a ≡ true → Found levels rows (get_or rows (row_of a) 0) set 0 → (k : ℕ) → k < 64 → bit_at set k ≡ true → Below (in_rows rows) a k
 all_sound levels rows a set w h k l b =
     let t = h.sound k l b in
     (t.0, sym (row_read rows a t.0 w t.1) ∙ t.2, t.3)
 
-pub all_complete : (levels : List (Option ℕ)) (rows : List ℕ) (a : Principal) (set : ℕ) → Falling levels (in_rows rows) → Found levels rows (get_or rows (row_of a) 0) set 8 → (k : ℕ) → Below (in_rows rows) a k → bit_at set k ≡ true
+pub all_complete : (levels : List (Option ℕ)) (rows : List ℕ) (a : Principal) (set : ℕ) → Falling levels (in_rows rows) → Found levels rows (get_or rows (row_of a) 0) set 0 → (k : ℕ) → Below (in_rows rows) a k → bit_at set k ≡ true
 all_complete levels rows a set fall h k u =
     let t = row_parts rows a u.0 u.1 in
     along levels rows _ set fall h u.2 u.0 k refl refl t.1 (h.base u.0 t.1 t.2)

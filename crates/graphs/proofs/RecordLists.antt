@@ -1,5 +1,8 @@
 -- The first n records of a list: what one record more, and one struck out, does to the links that they hold.
-use Rattle.std.proofs.Common.{◌≡◌, ℕ, zero, suc, ◌+◌, ◌-◌, ◌<◌, ◌≤◌, Bool, true, false, not, ◌&&◌, ◌||◌, ◌≢◌, List, length, set, Some, None, Decides, Option, unwrap_or, sym, refl, ap, ◌∙◌, subst, ⊎_elim, add-one, arith, get_or-set_other, get_or-set_same, ltb-true}
+use Rattle.std.proofs.Common.{◌≡◌, ℕ, zero, suc, ◌+◌, ◌-◌, ◌<◌, ◌≤◌, Bool, true, false, not, ◌&&◌, ◌||◌, ◌≢◌, List, length, take, set, Some, None, Decides, Option, unwrap_or, sym, refl, ap, ◌∙◌, subst, ⊎_elim, add-one, arith, get_or-set_other, get_or-set_same, ltb-true}
+use Rattle.std.specs.List.{AllWithin, HoldsAt}
+use Rattle.std.specs.Option.{MatchOption, is_some}
+use Rattle.std.proofs.lemmas.List.{get_or-take, length-take-le}
 use mathlib.Core.Path.{fun_ext}
 use borrow.Author.Tests.{both_ways, clash}
 use Rattle.std.proofs.lemmas.Bool.{cases_eq, cases_Bool, cases_order}
@@ -46,13 +49,13 @@ held_set xs (suc n) i x p k l =
     ap (λ y. is_link y p k || held (set xs i x) n p k) b ∙ ap (λ y. is_link (at_place xs n) p k || y) a
 
 -- one record more
-held_push : (xs : List Link) (n : ℕ) (u : Principal) (r : ℕ) → n < length xs → held (set xs n (link u r)) (n + 1) ≡ (λ p k. same_link u r p k || held xs n p k)
+pub held_push : (xs : List Link) (n : ℕ) (u : Principal) (r : ℕ) → n < length xs → held (set xs n (link u r)) (n + 1) ≡ (λ p k. same_link u r p k || held xs n p k)
 held_push xs n u r l =
     rw add-one (fun_ext (λ p. fun_ext (λ k.
     ap (λ y. is_link y p k || held (set xs n (link u r)) n p k) (get_or-set_same xs n (link u r) no_link l)
     ∙ ap (λ y. same_link u r p k || y) (held_set xs n n (link u r) p k (omega arith)))))
 
-distinct_push : (xs : List Link) (n : ℕ) (u : Principal) (r : ℕ) → n < length xs → Distinct xs n → held xs n u r ≡ false → Distinct (set xs n (link u r)) (n + 1)
+pub distinct_push : (xs : List Link) (n : ℕ) (u : Principal) (r : ℕ) → n < length xs → Distinct xs n → held xs n u r ≡ false → Distinct (set xs n (link u r)) (n + 1)
 distinct_push xs n u r l d f j lj =
     ⊎_elim
     (λ (q : j ≡ n).
@@ -155,17 +158,16 @@ falls_less (Some m) None e = absurd (clash e)
 falls_less None (Some n) e = absurd (clash e)
 falls_less None None e = absurd (clash e)
 
--- a record found
-pub found_at : (xs : List Link) (n i : ℕ) (u : Principal) (r : ℕ) → i < n → is_link (at_place xs i) u r ≡ true → (true ≡ held xs n u r) × ((i < n) × ((at_place xs i).upper ≡ u) × ((at_place xs i).lower ≡ r))
-found_at xs n i u r l b =
-    let e : at_place xs i ≡ link u r = (decides_is (at_place xs i) u r).0 b in
-    (sym (held_at xs n i u r l e), (l, ap (λ x. x.upper) e, ap (λ x. x.lower) e))
-
--- a record that is the link from u to r, put at the end
-pub pushed : (xs : List Link) (n : ℕ) (u : Principal) (r : ℕ) (x : Link) → n < length xs → x ≡ link u r → held (set xs n x) (n + 1) ≡ (λ p k. same_link u r p k || held xs n p k)
-pushed xs n u r x l e = ap (λ y. held (set xs n y) (n + 1)) e ∙ held_push xs n u r l
-
-pub pushed_distinct : (xs : List Link) (n : ℕ) (u : Principal) (r : ℕ) (x : Link) → n < length xs → x ≡ link u r → Distinct xs n → held xs n u r ≡ false → Distinct (set xs n x) (n + 1)
-pushed_distinct xs n u r x l e d f =
-    let P : Link → Type 0 = λ y. Distinct (set xs n y) (n + 1) in
-    subst P (sym e) (distinct_push xs n u r l d f)
+-- what a search of the first n records found
+pub position_held : (xs : List Link) (n : ℕ) (x : Link) (r : Option ℕ) → n ≤ length xs
+    → MatchOption r (AllWithin (λ y. y ≢ x) (take n xs) 0 (length (take n xs))) (λ i. (i < length (take n xs)) × HoldsAt (λ y. y ≡ x) (take n xs) i × AllWithin (λ y. y ≢ x) (take n xs) 0 i) → is_some r ≡ held xs n x.upper x.lower
+position_held xs n x (Some i) l h =
+    let k : i < n = omega (arith, h.0, length-take-le n xs l) in
+    sym (held_at xs n i x.upper x.lower k (sym (get_or-take n xs i no_link k) ∙ h.1 no_link))
+position_held xs n x None l h =
+    ⊎_elim
+    (λ (q : held xs n x.upper x.lower ≡ true).
+    let s = (decides_held xs n x.upper x.lower).0 q in
+    absurd (h s.0 no_link (omega arith) (omega (arith, s.1, length-take-le n xs l)) (get_or-take n xs s.0 no_link s.1 ∙ s.2)))
+    (λ (q : held xs n x.upper x.lower ≡ false). sym q)
+    (cases_Bool _)

@@ -9,6 +9,10 @@ use Rattle.model.specs.Principals.{in_range}
 use Rattle.model.specs.Graphs.{same_link}
 use Rattle.model.specs.Places.{same_principal}
 use Rattle.model.proofs.Chains.{same_true, same_eq}
+use Rattle.model.specs.Graphs.{takes_link, with_link, without_link}
+use Rattle.model.proofs.SoundGraphs.{link_taken}
+use Rattle.graphs.specs.declared.bit_rows.BitRows.{BitRows}
+use Rattle.graphs.specs.Meanings.{rows_graph, rows_sound}
 use Rattle.graphs.specs.Rows.{bit_at, row_of, in_rows}
 
 row_in_table : (p : Principal) → in_range p ≡ true → row_of p < 128
@@ -63,12 +67,12 @@ rows_with rows u r x s w l h = fun_ext (λ p. fun_ext (λ k. changed rows u p k 
     at_case p k false q = refl
 
 -- one bit less
-less : (w e b : Bool) → (w && (not e && b)) ≡ (not e && (w && b))
-less true e b = refl
-less false true b = refl
-less false false b = refl
+less : (w e b c : Bool) → (w ≡ true → c ≡ (not e && b)) → (w && c) ≡ (not e && (w && b))
+less true e b c h = h refl
+less false true b c h = refl
+less false false b c h = refl
 
-rows_without : (rows : List ℕ) (u : Principal) (r x : ℕ) → length rows ≡ 128 → in_range u ≡ true → ((j : ℕ) → bit_at x j ≡ (not (eqb r j) && bit_at (get_or rows (row_of u) 0) j))
+rows_without : (rows : List ℕ) (u : Principal) (r x : ℕ) → length rows ≡ 128 → in_range u ≡ true → ((j : ℕ) → j < 64 → bit_at x j ≡ (not (eqb r j) && bit_at (get_or rows (row_of u) 0) j))
     → in_rows (set rows (row_of u) x) ≡ (λ p k. not (same_link u r p k) && in_rows rows p k)
 unfolding in_rows
 rows_without rows u r x s w h = fun_ext (λ p. fun_ext (λ k. changed rows u p k x s w ∙ at_case p k (same_principal u p) refl))
@@ -76,8 +80,8 @@ rows_without rows u r x s w h = fun_ext (λ p. fun_ext (λ k. changed rows u p k
     at_case : (p : Principal) (k : ℕ) (b : Bool) → same_principal u p ≡ b → cond b ((in_range p && ltb k 64) && bit_at x k) (in_rows rows p k) ≡ (not (b && eqb r k) && in_rows rows p k)
     at_case p k true q =
         let e : u ≡ p = same_true u p q in
-        ap (λ y. (in_range p && ltb k 64) && y) (h k ∙ ap (λ y. not (eqb r k) && bit_at (get_or rows (row_of y) 0) k) e)
-        ∙ less (in_range p && ltb k 64) (eqb r k) (bit_at (get_or rows (row_of p) 0) k)
+        less (in_range p && ltb k 64) (eqb r k) (bit_at (get_or rows (row_of p) 0) k) (bit_at x k)
+        (λ z. h k (ltb-true k 64 (and_parts _ _ z).1) ∙ ap (λ y. not (eqb r k) && bit_at (get_or rows (row_of y) 0) k) e)
     at_case p k false q = refl
 
 -- a bit read
@@ -95,17 +99,15 @@ row_parts rows p k e =
 pub in_table : (p : Principal) (k : ℕ) → (in_range p && ltb k 64) ≡ true → (in_range p ≡ true) × (k < 64)
 in_table p k e = let a = and_parts _ _ e in (a.0, ltb-true k 64 a.1)
 
-pub row_outside : (rows : List ℕ) (p : Principal) (k : ℕ) → (in_range p && ltb k 64) ≡ false → in_rows rows p k ≡ false
-unfolding in_rows
-row_outside rows p k e = ap (λ b. b && bit_at (get_or rows (row_of p) 0) k) e
+-- the rows after a link is put, and after one is taken out
+pub rows_put : (s : BitRows) (u : Principal) (r i x y : ℕ) → takes_link true (rows_graph s) u r ≡ true → i ≡ row_of u → y ≡ get_or s.rows (row_of u) 0 → ((j : ℕ) → bit_at x j ≡ (eqb r j || bit_at y j))
+    → in_rows (set s.rows i x) ≡ (with_link (rows_graph s) u r).linked
+rows_put s u r i x y t e f h =
+    let k = link_taken true (rows_graph s) u r (rows_sound s) t in
+    ap (λ n. in_rows (set s.rows n x)) e ∙ rows_with s.rows u r x s.wide k.upper k.lower (λ j. h j ∙ ap (λ z. eqb r j || bit_at z j) f)
 
--- the row of u after a write at its place
-pub put_at : (rows : List ℕ) (u : Principal) (r i x : ℕ) → length rows ≡ 128 → in_range u ≡ true → r < 64 → i ≡ row_of u → ((j : ℕ) → bit_at x j ≡ (eqb r j || bit_at (get_or rows i 0) j))
-    → in_rows (set rows i x) ≡ (λ p k. same_link u r p k || in_rows rows p k)
-put_at rows u r i x s w l e h =
-    ap (λ y. in_rows (set rows y x)) e ∙ rows_with rows u r x s w l (λ j. h j ∙ ap (λ y. eqb r j || bit_at (get_or rows y 0) j) e)
-
-pub take_out_at : (rows : List ℕ) (u : Principal) (r i x : ℕ) → length rows ≡ 128 → in_range u ≡ true → i ≡ row_of u → ((j : ℕ) → bit_at x j ≡ (not (eqb r j) && bit_at (get_or rows i 0) j))
-    → in_rows (set rows i x) ≡ (λ p k. not (same_link u r p k) && in_rows rows p k)
-take_out_at rows u r i x s w e h =
-    ap (λ y. in_rows (set rows y x)) e ∙ rows_without rows u r x s w (λ j. h j ∙ ap (λ y. not (eqb r j) && bit_at (get_or rows y 0) j) e)
+pub rows_taken_out : (s : BitRows) (u : Principal) (r i x y : ℕ) → in_rows s.rows u r ≡ true → i ≡ row_of u → y ≡ get_or s.rows (row_of u) 0 → ((j : ℕ) → j < 64 → bit_at x j ≡ (not (eqb r j) && bit_at y j))
+    → in_rows (set s.rows i x) ≡ (without_link (rows_graph s) u r).linked
+rows_taken_out s u r i x y t e f h =
+    let k = row_parts s.rows u r t in
+    ap (λ n. in_rows (set s.rows n x)) e ∙ rows_without s.rows u r x s.wide k.0 (λ j l. h j l ∙ ap (λ z. not (eqb r j) && bit_at z j) f)

@@ -1,6 +1,6 @@
 -- The table of levels, and the graph that it makes with a set of links.
 use Rattle.std.specs.Prelude.{◌≡◌, ℕ, ◌<◌, ◌≤◌, Bool, true, false, List, length, Some, None, Option, ◌==◌, slice_index_or}
-use Rattle.std.proofs.Common.{arith}
+use Rattle.std.proofs.Common.{sym, subst}
 use Rattle.std.proofs.lemmas.List.{get_or_past}
 use Rattle.model.specs.declared.principal.Principal.{Principal}
 use Rattle.model.specs.LinkCount.{link_count}
@@ -24,7 +24,17 @@ Low levels = (r n : ℕ) → level_in levels r ≡ Some n → n < 8
 abbrev pub Falling : List (Option ℕ) → (Principal → ℕ → Bool) → Type 0
 Falling levels linked = (p : Principal) (r : ℕ) → linked p r ≡ true → falls (level_in levels) p r ≡ true
 
+-- what both graphs keep of their n links
+pub record Kept (levels : List (Option ℕ)) (linked : Principal → ℕ → Bool) (n : ℕ) : Type 0 where
+  pub falling : Falling levels linked
+  pub counted : n ≡ link_count linked
+  pub few : n ≤ 256
+
 -- what both graphs keep makes them sound
-pub kept_sound : (levels : List (Option ℕ)) (linked : Principal → ℕ → Bool) (n : ℕ) → length levels ≡ 64 → Low levels → Falling levels linked → n ≡ link_count linked → n ≤ 256 → Sound (graph_of levels linked)
-kept_sound levels linked n s l f c w =
-    record { low = l; roles_in_range = λ r h. get_or_past levels r None (omega arith); falling = f; few = omega arith }
+pub kept_sound : (levels : List (Option ℕ)) (linked : Principal → ℕ → Bool) (n : ℕ) → length levels ≡ 64 → Low levels → Kept levels linked n → Sound (graph_of levels linked)
+kept_sound levels linked n s l k = record {
+  low = l;
+  roles_in_range = λ r h. get_or_past levels r None (subst (λ (m : ℕ). m ≤ r) (sym s) h);
+  falling = k.falling;
+  few = subst (λ (m : ℕ). m ≤ 256) k.counted k.few;
+}

@@ -1,5 +1,6 @@
 -- Rows of bits: bit k of a principal's row is the link to role k.
-use Rattle.std.specs.Prelude.{◌≡◌, ℕ, zero, suc, ◌+◌, ◌/◌, ◌%◌, ◌^◌, Bool, true, false, ◌&&◌, ◌||◌, List, Option, ◌==◌, nat_lt, slice_index}
+use Rattle.std.specs.Prelude.{◌≡◌, ℕ, ◌+◌, ◌/◌, ◌%◌, ◌^◌, Bool, true, ◌&&◌, List, Option, ◌==◌, nat_lt, slice_index}
+use Rattle.std.specs.List.{list_any, range_with_len}
 use Rattle.model.specs.declared.principal.Principal.{Principal}
 use Rattle.model.specs.declared.principal.Principal.TheVariants.{User, Role}
 use Rattle.model.specs.Principals.{in_range}
@@ -20,8 +21,7 @@ in_rows rows p k = (in_range p && nat_lt k 64) && bit_at (slice_index rows (row_
 
 -- f holds of a number below n. Shut, so that 64 cases are not written out.
 unfoldable pub some_below : (ℕ → Bool) → ℕ → Bool
-some_below f zero = false
-some_below f (suc n) = f n || some_below f n
+some_below f n = list_any f (range_with_len 0 n)
 
 -- role k is in the set, has the level n and a link to role j
 unfoldable pub leads : List (Option ℕ) → List ℕ → ℕ → ℕ → ℕ → ℕ → Bool

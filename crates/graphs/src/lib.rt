@@ -2,12 +2,10 @@
 #![tactic(auto)]
 
 mod bit_rows;
-mod bit_rows_graph;
-mod bits;
 mod levels;
 mod link;
 mod link_list;
-mod link_list_graph;
+mod role_set;
 
 pub use bit_rows::BitRows;
 pub use link::{LINKS, Link};

@@ -1,15 +1,15 @@
 // Links between principals and roles.
-ghost use Rattle.std.specs.Prelude.{◌≡◌, nat_lt};
-ghost use Rattle.graphs.specs.Records.{link, is_link};
+ghost use Rattle.std.specs.Prelude.{◌≡◌, ◌&&◌, nat_lt};
+ghost use Rattle.model.specs.Principals.{in_range};
+ghost use Rattle.graphs.specs.Records.{link};
 
-use model::place::same_principal;
-use model::principal::Principal;
+use model::principal::{Principal, ROLES};
 
 // The most links that a graph holds.
 pub const LINKS: usize = 256;
 
 // A link from a principal to a role below it.
-#[derive(Clone, Copy)]
+#[derive(Clone, Copy, PartialEq, Eq)]
 pub struct Link {
     pub upper: Principal,
     pub lower: u8,
@@ -21,16 +21,19 @@ impl Link {
     {
         Link { upper, lower }
     }
+
+    // Whether there can be such principals.
+    pub(crate) fn is_in_range(self) -> bool
+        ensures { result ≡ in_range self.upper && nat_lt self.lower 64 }
+    {
+        self.upper.is_in_range() && self.lower < ROLES
+    }
 }
 
+// Both graphs ask this in a `takes_link` of their own: `add` cannot call a function over any `Graph`,
+// since that may call `add` again.
 pub(crate) fn has_room(count: usize) -> bool
     ensures { result ≡ nat_lt count 256 }
 {
     count < LINKS
-}
-
-pub(crate) fn is_link(link: Link, upper: Principal, lower: u8) -> bool
-    ensures { result ≡ is_link link upper lower }
-{
-    same_principal(link.upper, upper) & (link.lower == lower)
 }

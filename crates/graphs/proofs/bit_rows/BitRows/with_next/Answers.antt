@@ -1,18 +1,15 @@
-use Rattle.std.proofs.Common.{◌≡◌, ◌||◌, ap, ◌∙◌, arith}
-use Rattle.graphs.specs.Rows.{leads, bit_at, some_below}
-use Rattle.graphs.proofs.LevelByLevel.{union_more, some_none}
+use Rattle.std.proofs.Common.{rules, ◌≡◌, ℕ, ◌<◌, ◌||◌, List, refl}
+use Rattle.std.proofs.iter.Yields.{nat_range_steps}
+use Rattle.std.proofs.lemmas.Fn.{fold_over}
+use Rattle.std.proofs.lemmas.Iterator.{YieldsList-from_range}
+use Rattle.std.specs.List.{list_any, range_with_len}
+use Rattle.graphs.specs.Rows.{bit_at, leads, some_below}
+use Rattle.graphs.proofs.LevelByLevel.{union_more}
 use Rattle.graphs.proofs.bit_rows.BitRows.with_next.Goals as goal
 
-pub loop-role-init : goal.loop-role-init
-loop-role-init c j l = some_none _ _
-
-pub loop-role-preserved : goal.loop-role-preserved
-loop-role-preserved c j l =
-    let s = c.args.self.now in
-    union_more (leads s.levels s.rows c.args.set c.args.level j) c.loop-role.next c.row_on_level-next.result c.args.set c.loop-role.role j (c.row_on_level-next.ensures j l) (c.loop-role.invariant j l)
-
 pub returns : goal.returns
-returns c j l =
+unfolding some_below
+returns c =
     let s = c.args.self.now in
-    let e : c.loop-role.role ≡ 64 = omega arith in
-    c.loop-role.invariant j l ∙ ap (λ k. some_below (leads s.levels s.rows c.args.set c.args.level j) k || bit_at c.args.set j) e
+    let J : List ℕ → ℕ → Type 0 = λ ks a. (j : ℕ) → j < 64 → bit_at a j ≡ (list_any (leads s.levels.of_roles s.rows c.args.set c.args.level j) ks || bit_at c.args.set j) in
+    fold_over nat_range_steps (λ k. k) _ J _ (λ ks a k b f' h call. ((λ j l. search (rules, union_more)), search rules)) (record { start = 0; end = 64 }) (range_with_len 0 64) _ _ (YieldsList-from_range 0 64 64 refl refl).runs (λ j l. refl) c.fold.ensures.ran

@@ -1,13 +1,12 @@
-use Rattle.std.proofs.Common.{sym, add-one}
-use Rattle.std.proofs.lemmas.Bool.{or_from}
-use Rattle.graphs.proofs.RecordLists.{found_at}
+use Rattle.std.proofs.Common.{◌≡◌, ◌≢◌, rules, take}
+use borrow.Author.Tests.{tests}
+use Rattle.std.proofs.lemmas.Iterator.{YieldsList-from_slice, IsFirst-from_position}
+use Rattle.graphs.specs.declared.link.Link.{Link}
+use Rattle.graphs.proofs.RecordLists.{position_held}
 use Rattle.graphs.proofs.link_list.LinkList.position.Goals as goal
 
-pub loop-i-preserved : goal.loop-i-preserved
-loop-i-preserved c = rw add-one (or_from _ _ (sym c.if-is_link.ensures) c.loop-i.invariant)
-
-pub returns-then-is_link : goal.returns-then-is_link
-returns-then-is_link c =
+pub returns-clause-stands : goal.returns-clause-stands
+returns-clause-stands c =
     let s = c.args.self.now in
-    let f = found_at s.links.now s.len c.loop-i.i c.args.upper c.args.lower c.loop-i-test.true (sym c.if-is_link.ensures) in
-    record { stands = f.0; place = f.1 }
+    position_held s.links.now s.len c.args.link c.position.result s.fits
+    (IsFirst-from_position _ _ c.position.result (λ (x : Link). x ≡ c.args.link) (λ (x : Link). x ≢ c.args.link) c.position.ensures.ran (YieldsList-from_slice (take s.len s.links.now) cc) (λ x q k. search (rules, tests)) (λ x q k. search (rules, tests)))

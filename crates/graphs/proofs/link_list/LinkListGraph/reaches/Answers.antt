@@ -1,6 +1,6 @@
 use Rattle.std.proofs.Common.{sym}
 use Rattle.graphs.proofs.RecordLists.{follows_first}
-use Rattle.graphs.proofs.link_list_graph.LinkListGraph.reaches.Goals as goal
+use Rattle.graphs.proofs.link_list.LinkListGraph.reaches.Goals as goal
 
 pub returns : goal.returns
 returns c =
