@@ -5,7 +5,7 @@ use Rattle.std.proofs.lemmas.Bool.{cond_both, ltb-false}
 use Rattle.std.proofs.lemmas.List.Sums.{prefix_len-le-length}
 use Rattle.words.specs.declared.token.Token.{Token}
 use Rattle.words.specs.declared.token.Token.TheVariants as token
-use Rattle.words.specs.Words.{words, words_from, longer, text, Tells, WordAt}
+use Rattle.words.specs.Words.{words, words_from, longer, text, place, Tells, WordAt}
 
 pub past : (bs : List ℕ) (at : ℕ) → length bs < at → words_from bs at ≡ []
 unfolding words_from
@@ -51,6 +51,12 @@ tells_text w at (token.Principal s o p) h = h.0
 tells_text w at (token.Object s o n) h = h.0
 tells_text w at (token.Number s o n) h = h.0
 
+tells_place : (w : List ℕ) (at : ℕ) (t : Token) → Tells w at t → place t ≡ at
+tells_place w at (token.Keyword s o) h = h.1
+tells_place w at (token.Principal s o p) h = h.1
+tells_place w at (token.Object s o n) h = h.1
+tells_place w at (token.Number s o n) h = h.1
+
 -- the word up to the first space, where the rest of the body begins with it
 pub step : (bs : List ℕ) (at n : ℕ) (rest : List ℕ) (t : Token) → at ≤ length bs → rest ≡ slice_range bs at (length bs) → n ≡ unwrap_or (position (λ b. b == 32) rest) (length rest) → Tells (take n rest) at t → WordAt bs at t
 step bs at n rest t h r i d =
@@ -61,6 +67,7 @@ step bs at n rest t h r i d =
     let cuts : words_from bs at ≡ take (solid rest) rest ∷ words_from bs (at + solid rest + 1) = rw from (cut bs at h) in
     record {
       tells = subst (λ x. Tells x at t) (sym same) d;
+      stands = tells_place (take n rest) at t d;
       first = cuts ∙ ap (λ x. x ∷ words_from bs (at + solid rest + 1)) (sym whole) ∙ ap (λ k. text t ∷ words_from bs (at + k + 1)) (sym long);
       within = omega (arith, solid_within rest, ap length from, length-drop at bs);
     }

@@ -76,5 +76,6 @@ place (token.Number s o n) = o
 -- the token is the word at the offset, and the next word begins past the space after it
 pub record WordAt (bs : List ℕ) (at : ℕ) (t : Token) : Type 0 where
   pub tells : Tells (text t) at t
+  pub stands : place t ≡ at
   pub first : words_from bs at ≡ text t ∷ words_from bs (at + length (text t) + 1)
   pub within : at + length (text t) ≤ length bs
