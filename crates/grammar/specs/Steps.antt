@@ -1,5 +1,6 @@
 -- How a reader goes through a sentence word by word.
-use Rattle.std.specs.Prelude.{◌≡◌, ℕ, ◌+◌, ◌≤◌, ◌⊎◌, List, [], ◌∷◌, length, Result, MatchResult}
+use Rattle.std.specs.Prelude.{◌≡◌, ℕ, ◌+◌, ◌≤◌, ◌⊎◌, List, [], ◌∷◌, length, map, Result, MatchResult}
+use Rattle.std.specs.Borrow.{Bor}
 use Rattle.model.specs.declared.principal.Principal.{Principal}
 use Rattle.model.specs.declared.privilege.Privilege.{Privilege}
 use Rattle.words.specs.Words.{index}
@@ -8,13 +9,21 @@ use Rattle.grammar.specs.declared.phrase.Phrase.{Phrase}
 use Rattle.grammar.specs.declared.sentence.Command.{Command}
 use Rattle.grammar.specs.declared.sentence.Sentence.{Sentence}
 use Rattle.grammar.specs.declared.sentence.Misworded.{Misworded}
-use Rattle.grammar.specs.Sentences.{Slot, Fits, Within, written, first, rest, tail, spell, offset, right_words}
+use Rattle.grammar.specs.Sentences.{Slot, word, Fits, Within, written, first, rest, tail, spell, offset, right_words}
 
 -- the next word of the old phrase is w, and the new one has what is left after it
 pub record Takes (old new : Phrase) (w : List ℕ) : Type 0 where
   pub here : words_left old.words ≡ w ∷ words_left new.words
   pub beyond : new.words.at ≡ old.words.at + length w + 1
   pub same : new.words.body ≡ old.words.body
+
+-- the texts that references lead to
+abbrev pub texts : List (Bor (List ℕ)) → List (List ℕ)
+texts ws = map (λ w. w.now) ws
+
+-- the slots that have these words
+abbrev pub word_slots : List (List ℕ) → List Slot
+word_slots ws = map (λ w. word w) ws
 
 -- the first of the words does not fit, or there is none
 abbrev pub Lacks : Slot → List (List ℕ) → ℕ → ℕ → ℕ → Type 0

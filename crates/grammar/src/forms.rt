@@ -92,7 +92,7 @@ pub(crate) fn grant_form(mut words: Phrase) -> Result<Sentence, Misworded>
     ensures { Continues command.Grant words.entry result }
 {
     let grant = right(&mut words, b"TO")?;
-    let option = words.option()?;
+    let option = words.tail(&[b"OPTION"])?;
     Ok(Sentence::Grant {
         privilege: grant.privilege,
         object: grant.object,
@@ -108,7 +108,7 @@ pub(crate) fn restrict_form(
     ensures { Continues (command.Restrict restriction) words.entry result }
 {
     let restricted = right(&mut words, b"TO")?;
-    let neutral = words.neutral()?;
+    let neutral = words.tail(&[b"NEUT", b"ORNT"])?;
     Ok(Sentence::Restrict {
         restriction,
         privilege: restricted.privilege,

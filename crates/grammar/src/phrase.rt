@@ -1,8 +1,8 @@
-ghost use Rattle.std.specs.Prelude.{◌≡◌, [], length, MatchOption, MatchResult};
+ghost use Rattle.std.specs.Prelude.{◌≡◌, [], length, if◌then◌else◌, MatchResult};
 ghost use Rattle.words.specs.Words.{text, WordAt};
 ghost use Rattle.words.specs.Iter.{words_left};
 ghost use Rattle.grammar.specs.declared.sentence.Command.{Command};
-ghost use Rattle.grammar.specs.Sentences.{first, word as a_word, option_tail, option_words, neutral_tail, neutral_words};
+ghost use Rattle.grammar.specs.Sentences.{first, word as a_word};
 
 use crate::keyword::value_of;
 use crate::parts::Part;
@@ -17,7 +17,7 @@ pub(crate) struct Phrase<'a> {
 }
 
 impl<'a> Phrase<'a> {
-    ghost use Rattle.grammar.specs.Steps.{Takes, LacksAt, StraysAt, ErrsAt};
+    ghost use Rattle.grammar.specs.Steps.{Takes, LacksAt, StraysAt, ErrsAt, texts, word_slots};
 
     // The next word, or the place of the body's end.
     fn token(&mut self) -> Result<Token<'a>, Misworded>
@@ -66,28 +66,25 @@ impl<'a> Phrase<'a> {
         }
     }
 
-    // Whether OPTION follows, and then nothing.
-    pub(crate) fn option(mut self) -> Result<bool, Misworded>
-        ensures { MatchResult result (λ b. words_left self.entry.words ≡ option_words b) (ErrsAt [] option_tail self.entry) }
+    // These words, and no more.
+    fn remaining(mut self, words: &[&[u8]]) -> Result<(), Misworded>
+        ensures { MatchResult result (λ _. words_left self.entry.words ≡ texts words.now) (StraysAt (word_slots (texts words.now)) self.entry) }
     {
-        if self.end().is_ok() {
-            return Ok(false);
-        }
-        self.keyword(b"OPTION")?;
-        self.end()?;
-        Ok(true)
+        let Some((word, others)) = words.split_first() else {
+            return self.end();
+        };
+        self.keyword(word)?;
+        self.remaining(others)
     }
 
-    // Whether NEUT ORNT follows, and then nothing.
-    pub(crate) fn neutral(mut self) -> Result<bool, Misworded>
-        ensures { MatchResult result (λ b. words_left self.entry.words ≡ neutral_words b) (ErrsAt [] neutral_tail self.entry) }
+    // Whether the words of a tail follow, and no more; or none at all.
+    pub(crate) fn tail(self, tail: &[&[u8]]) -> Result<bool, Misworded>
+        ensures { MatchResult result (λ b. words_left self.entry.words ≡ (if b then texts tail.now else [])) (ErrsAt [] (word_slots (texts tail.now)) self.entry) }
     {
         if self.end().is_ok() {
             return Ok(false);
         }
-        self.keyword(b"NEUT")?;
-        self.keyword(b"ORNT")?;
-        self.end()?;
+        self.remaining(tail)?;
         Ok(true)
     }
 }
