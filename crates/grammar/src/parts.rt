@@ -26,6 +26,7 @@ pub(crate) trait Part: Copy {
         ensures { MatchOption result (Fits slot (text token.entry) → ⊥) (λ x. IsSmall x × (text token.entry ≡ spelled x)) };
 }
 
+// The numbers of roles, users and objects, and levels: each is read from words of another kind.
 #[derive(Clone, Copy)]
 pub(crate) struct Role(pub u8);
 
