@@ -1,11 +1,15 @@
 -- From the words after the first to the whole body.
 use Rattle.std.proofs.Common.{◌≡◌, ℕ, ◌+◌, ◌⊎◌, List, [], ◌∷◌, ◌++◌, length, Ok, Err, Result, sym, refl, ap, ◌∙◌, subst, inl, inr, ⊎_elim, append-nil, arith, MatchResult}
 use Rattle.words.specs.Words.{words, words_from}
+use Rattle.words.proofs.Joins.{some_word}
+use Rattle.words.specs.Iter.{words_left}
 use Rattle.grammar.specs.declared.sentence.Command.{Command}
 use Rattle.grammar.specs.declared.sentence.Command.TheVariants as command
 use Rattle.grammar.specs.declared.sentence.Sentence.{Sentence}
-use Rattle.grammar.specs.Sentences.{Slot, Spells, written, Front, Whole, Starts, Says, Stops, NoSentence, first, rest, tail, offset}
-use Rattle.grammar.specs.Steps.{Takes, Strays, Errs, Continues}
+use Rattle.grammar.specs.declared.sentence.Misworded.{Misworded}
+use Rattle.grammar.specs.declared.phrase.Phrase.{Phrase}
+use Rattle.grammar.specs.Sentences.{Slot, Spells, written, Front, Whole, Starts, Says, Stops, NoSentence, word, first, rest, tail, spell, offset}
+use Rattle.grammar.specs.Steps.{Takes, Lacks, Strays, Errs, Continues}
 use Rattle.grammar.proofs.Lookup.{first_one}
 
 -- where the words go wrong, they are not the whole
@@ -91,12 +95,20 @@ no_sentence k bs ws at p e n h =
     }
 
 -- what a reader makes of the words after the first, of the whole body
-pub whole_body : (k : Command) (bs : List ℕ) (at : ℕ) (r : Result Sentence ℕ) → Takes bs 0 at (first k) → Continues k bs at r → MatchResult r (Spells written bs) (NoSentence bs)
+pub whole_body : (k : Command) (old new : Phrase) (r : Result Sentence Misworded) → old.words.at ≡ 0 → Takes old new (first k) → Continues k new r → MatchResult r (Spells written old.words.body.now) (λ e. NoSentence old.words.body.now e.at)
 unfolding words_from
-whole_body k bs at (Ok s) t h = record { within = h.0; spelled = t.here ∙ h.1 }
-whole_body k bs at (Err p) t h = let e : at ≡ length (first k) + 1 = omega (arith, t.beyond) in no_sentence k bs (words_from bs at) at p t.here e h
+whole_body k old new (Ok s) z t h = record { within = h.0; spelled = subst (λ n. words_from old.words.body.now n ≡ spell s) z (t.here ∙ h.1) }
+whole_body k old new (Err e) z t h =
+    let bs = old.words.body.now in
+    let here : words_from bs 0 ≡ first k ∷ words_left new.words = subst (λ n. words_from bs n ≡ first k ∷ words_left new.words) z t.here in
+    no_sentence k bs (words_left new.words) new.words.at e.at here (omega (arith, t.beyond))
+    (subst (λ l. Errs (rest k) (tail k) (words_left new.words) l new.words.at e.at) (ap (λ b. length b.now) t.same) h)
+
+no_first : (bs : List ℕ) (ws : List (List ℕ)) (p : ℕ) → words bs ≡ ws → ((k : Command) → Lacks (word (first k)) ws (length bs) 0 p) → NoSentence bs p
+no_first bs [] p e f = absurd (some_word bs e)
+no_first bs (w ∷ ws) p e f = record { before = []; after = w ∷ ws; cut = e; starts = (command.Role, tt); stops = (λ s. (f s.0).0 s.1.0, (f command.Role).1) }
 
 -- the first word begins no sentence
-pub no_command : (bs w : List ℕ) (ws : List (List ℕ)) → words_from bs 0 ≡ w ∷ ws → ((k : Command) → w ≡ first k → ⊥) → NoSentence bs 0
+pub no_command : (bs : List ℕ) (p : ℕ) → ((k : Command) → Lacks (word (first k)) (words_from bs 0) (length bs) 0 p) → NoSentence bs p
 unfolding words_from
-no_command bs w ws e f = record { before = []; after = w ∷ ws; cut = e; starts = (command.Role, tt); stops = (λ s. f s.0 s.1.0, refl) }
+no_command bs p f = no_first bs (words_from bs 0) p refl f

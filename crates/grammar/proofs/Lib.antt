@@ -1,4 +1,2 @@
-pub mod Takes
-pub mod Errors
 pub mod Lookup
 pub mod Bodies

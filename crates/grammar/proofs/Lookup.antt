@@ -1,5 +1,5 @@
 -- No two commands begin alike, and no two privileges or types are written alike.
-use Rattle.std.proofs.Common.{◌≡◌, ℕ, cond, List, [], ◌∷◌, sym, refl, ap, ◌∙◌}
+use Rattle.std.proofs.Common.{◌≡◌, ℕ, cond, List, [], ◌∷◌, Option, Some, None, MatchOption, All, Contains, sym, refl, ap, ◌∙◌, subst}
 use Rattle.std.specs.Str.{bytes_eq}
 use Rattle.model.specs.declared.kind.Kind.{Kind}
 use Rattle.model.specs.declared.kind.Kind.TheVariants as kind
@@ -54,3 +54,8 @@ kind_back kind.Library = refl
 kind_back kind.Face = refl
 kind_back kind.Hints = refl
 kind_back kind.Bitmaps = refl
+
+-- what holds of each listed value, where every value is listed
+pub every : {T : Type 0} (P Q : T → Type 0) (xs : List T) (r : Option T) → ((x : T) → Contains xs x) → MatchOption r (All P xs) Q → MatchOption r ((x : T) → P x) Q
+every P Q xs (Some x) f h = h
+every P Q xs None f h = λ x. let (k, below, is) = f x in subst P is (h k x below)

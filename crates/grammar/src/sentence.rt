@@ -11,7 +11,7 @@ pub enum Restriction {
 }
 
 // What the first word of a sentence asks for.
-#[derive(Clone, Copy)]
+#[derive(Clone, Copy, Debug, PartialEq, Eq)]
 pub enum Command {
     Role,
     Object,
@@ -66,4 +66,11 @@ pub enum Sentence {
         object: u8,
         principal: Principal,
     },
+}
+
+// That a body is no sentence: the offset of the first word that no sentence has there, or the
+// body's length.
+#[derive(Clone, Copy, Debug, PartialEq, Eq)]
+pub struct Misworded {
+    pub at: usize,
 }

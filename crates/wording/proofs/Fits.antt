@@ -1,7 +1,6 @@
 -- The numbers of a sentence are in range if no word of it has a number that is too large.
-use Rattle.std.proofs.Common.{ℕ, ◌<◌, ◌≤◌, refl, inl, inr, ⊎_elim, arith}
+use Rattle.std.proofs.Common.{ℕ, ◌<◌, ◌≤◌, refl, inl, inr, arith}
 use Rattle.std.specs.List.{AllByRecursion}
-use Rattle.std.proofs.lemmas.Bool.{cases_lt}
 use Rattle.model.specs.declared.principal.Principal.{Principal}
 use Rattle.model.specs.declared.principal.Principal.TheVariants as principal
 use Rattle.words.specs.Words.{digits, index, principal_word, object_word}
@@ -10,17 +9,14 @@ use Rattle.grammar.specs.declared.sentence.Sentence.TheVariants as sentence
 use Rattle.grammar.specs.Sentences.{spell, Within, written}
 use Rattle.wording.specs.Ranges.{range, Fine}
 
-at_most : (n m : ℕ) → (m < n → ⊥) → n ≤ m
-at_most n m f = ⊎_elim (λ h. absurd (f h)) (λ h. h) (cases_lt m n)
-
 principal_in : (q : Principal) → index q ≤ 99 → Fine (principal_word q) → index q ≤ 63
-principal_in q s f = at_most (index q) 63 (λ h. f (inl (q, h, s, refl)))
+principal_in q s f = let small : 63 < index q → ⊥ = λ h. f (inl (q, h, s, refl)) in omega arith
 
 object_in : (o : ℕ) → o ≤ 99 → Fine (object_word o) → o ≤ 31
-object_in o s f = at_most o 31 (λ h. f (inr (inl (o, h, s, refl))))
+object_in o s f = let small : 31 < o → ⊥ = λ h. f (inr (inl (o, h, s, refl))) in omega arith
 
 level_in : (n : ℕ) → n ≤ 99 → Fine (digits n) → n ≤ 7
-level_in n s f = at_most n 7 (λ h. f (inr (inr (n, h, s, refl))))
+level_in n s f = let small : 7 < n → ⊥ = λ h. f (inr (inr (n, h, s, refl))) in omega arith
 
 pub in_range : (s : Sentence) → Within written s → AllByRecursion Fine (spell s) → Within range s
 in_range (sentence.Role r n) s f = (principal_in (principal.Role r) s.0 f.1.0, level_in n s.1 f.1.1.1.0)

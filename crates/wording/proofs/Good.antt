@@ -9,7 +9,7 @@ use Rattle.model.specs.declared.principal.Principal.TheVariants as principal
 use Rattle.model.specs.declared.privilege.Privilege.{Privilege}
 use Rattle.model.specs.declared.privilege.Privilege.TheVariants as privilege
 use Rattle.words.specs.Words.{words, join, digits, index, principal_word, object_word}
-use Rattle.words.proofs.Joins.{Solid, nil_cons, words_join}
+use Rattle.words.proofs.Joins.{Solid, words_join}
 use Rattle.grammar.specs.declared.sentence.Restriction.{Restriction}
 use Rattle.grammar.specs.declared.sentence.Restriction.TheVariants as restriction
 use Rattle.grammar.specs.declared.sentence.Command.TheVariants as command
@@ -133,14 +133,14 @@ pub fine_words : (s : Sentence) → Within range s → AllByRecursion Fine (spel
 fine_words s h = all_fine (spell s) (good_words s h)
 
 some_first : (s : Sentence) → spell s ≡ [] → ⊥
-some_first (sentence.Role r n) e = nil_cons _ _ e
-some_first (sentence.Object o t u) e = nil_cons _ _ e
-some_first (sentence.Link r q) e = nil_cons _ _ e
-some_first (sentence.Cut r q) e = nil_cons _ _ e
-some_first (sentence.Grant p o q b) e = nil_cons _ _ e
-some_first (sentence.Restrict r p o q b) e = nil_cons _ _ e
-some_first (sentence.Revoke p o q) e = nil_cons _ _ e
-some_first (sentence.Check p o q) e = nil_cons _ _ e
+some_first (sentence.Role r n) e = cc
+some_first (sentence.Object o t u) e = cc
+some_first (sentence.Link r q) e = cc
+some_first (sentence.Cut r q) e = cc
+some_first (sentence.Grant p o q b) e = cc
+some_first (sentence.Restrict r p o q b) e = cc
+some_first (sentence.Revoke p o q) e = cc
+some_first (sentence.Check p o q) e = cc
 
 -- the words of a sentence stand as they are when its body is cut
 pub read_back : (s : Sentence) → Within range s → words (join (spell s)) ≡ spell s

@@ -8,7 +8,7 @@ use Rattle.wording.specs.declared.fault.WordingFault.TheVariants as fault
 use Rattle.grammar.specs.declared.sentence.Sentence.{Sentence}
 use Rattle.grammar.specs.Sentences.{Slot, Within, written, Spells, Front, Whole, Starts, Says, Stops, NoSentence, short, long, tail, spell, offset}
 use Rattle.wording.specs.Ranges.{range, Fine, TooLarge, Exceeds}
-use Rattle.wording.specs.Answers.{Answers, InRange, Laws, Parsed}
+use Rattle.wording.specs.Answers.{Answers, Laws, Parsed}
 use Rattle.wording.proofs.Spelling.{distinct, says, said}
 use Rattle.wording.proofs.Fits.{in_range, widen}
 use Rattle.wording.proofs.Good.{fine_words, read_back}
@@ -144,15 +144,10 @@ laws = record {
 pub parsed : (bs : List ℕ) (r : Result Sentence WordingFault) → Answers bs r → Parsed bs r
 parsed bs r h = record { answer = h; only = λ q k. one bs q r k h; laws = laws }
 
--- a sentence whose numbers were looked at
-pub ranged : (bs : List ℕ) (t : Sentence) (r : Result Sentence WordingFault) → Spells written bs t → InRange bs t r → Parsed bs r
-ranged bs t (Ok s) h k =
-    let e = k.0 in
-    parsed bs (Ok s)
-    (record {
-      within = subst (Within range) (sym e) (in_range t h.within (subst (AllByRecursion Fine) h.spelled k.1));
-      spelled = h.spelled ∙ ap spell (sym e);
-    })
-ranged bs t (Err (fault.Reading f)) h k = absurd k
-ranged bs t (Err (fault.Sentence p)) h k = absurd k
-ranged bs t (Err (fault.Range p)) h k = parsed bs (Err (fault.Range p)) (record { says = spelled_says bs t h; exceeds = k })
+-- a sentence whose numbers are fine
+pub answered : (bs : List ℕ) (s : Sentence) → Spells written bs s → AllByRecursion Fine (words bs) → Parsed bs (Ok s)
+answered bs s h f = parsed bs (Ok s) (record { within = in_range s h.within (subst (AllByRecursion Fine) h.spelled f); spelled = h.spelled })
+
+-- a sentence with a number that is too large
+pub exceeded : (bs : List ℕ) (s : Sentence) (p : ℕ) → Spells written bs s → Exceeds bs p → Parsed bs (Err (fault.Range p))
+exceeded bs s p h x = parsed bs (Err (fault.Range p)) (record { says = spelled_says bs s h; exceeds = x })

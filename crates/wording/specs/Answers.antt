@@ -1,6 +1,5 @@
 -- What a body is answered, and the record at an offset of an input.
 use Rattle.std.specs.Prelude.{◌≡◌, ℕ, List, length, Some, None, Ok, Err, Option, Result, ◌≢◌}
-use Rattle.std.specs.List.{AllByRecursion}
 use Rattle.reading.specs.Records.{Frame, Stands, Refused, after}
 use Rattle.words.specs.Words.{words, join}
 use Rattle.wording.specs.declared.fault.WordingFault.{WordingFault}
@@ -8,19 +7,12 @@ use Rattle.wording.specs.declared.fault.WordingFault.TheVariants as fault
 use Rattle.wording.specs.declared.issued.IssuedSentence.{IssuedSentence}
 use Rattle.grammar.specs.declared.sentence.Sentence.{Sentence}
 use Rattle.grammar.specs.Sentences.{Within, written, Spells, Says, NoSentence, spell}
-use Rattle.wording.specs.Ranges.{range, Fine, Exceeds}
+use Rattle.wording.specs.Ranges.{range, Exceeds}
 
 -- the body is a sentence, and p is the place of the first word whose number is too large
 pub record OutOfRange (bs : List ℕ) (p : ℕ) : Type 0 where
   pub says : Says (words bs)
   pub exceeds : Exceeds bs p
-
--- what becomes of a sentence by the numbers of its words
-abbrev pub InRange : List ℕ → Sentence → Result Sentence WordingFault → Type 0
-InRange bs t (Ok s) = (s ≡ t) × AllByRecursion Fine (words bs)
-InRange bs t (Err (fault.Reading f)) = ⊥
-InRange bs t (Err (fault.Sentence p)) = ⊥
-InRange bs t (Err (fault.Range p)) = Exceeds bs p
 
 -- the answer to a body: its sentence, or why and where there is none
 abbrev pub Answers : List ℕ → Result Sentence WordingFault → Type 0

@@ -1,5 +1,5 @@
 -- The number, the layer and the place of each wording fault.
-use Rattle.std.specs.Prelude.{ℕ}
+use Rattle.std.specs.Prelude.{ℕ, List, ◌++◌, codes, decimal}
 use Rattle.reading.specs.declared.fault.Layer.{Layer}
 use Rattle.reading.specs.declared.fault.Layer.TheVariants.{Wording}
 use Rattle.reading.specs.Faults as reading
@@ -22,3 +22,7 @@ abbrev pub place_of : WordingFault → ℕ
 place_of (Reading f) = reading.place_of f
 place_of (Sentence p) = p
 place_of (Range p) = p
+
+-- no 7 at 5
+abbrev pub shown : WordingFault → List ℕ
+shown f = codes "no " ++ decimal (number_of f) ++ codes " at " ++ decimal (place_of f)

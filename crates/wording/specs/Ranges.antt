@@ -4,7 +4,6 @@ use Rattle.std.specs.List.{AllByRecursion}
 use Rattle.model.specs.declared.principal.Principal.{Principal}
 use Rattle.words.specs.Words.{words, digits, index, principal_word, object_word}
 use Rattle.grammar.specs.Sentences.{Limits, offset}
-use Rattle.grammar.specs.Steps.{Takes}
 
 -- what there is
 abbrev pub range : Limits
@@ -28,16 +27,3 @@ pub record Exceeds (bs : List ℕ) (p : ℕ) : Type 0 where
   pub fine : AllByRecursion Fine before
   pub large : TooLarge word
   pub place : p ≡ offset before
-
--- the word at an offset is fine, and the next begins at next
-pub record FineWord (bs : List ℕ) (at next : ℕ) : Type 0 where
-  pub word : List ℕ
-  pub takes : Takes bs at next word
-  pub fine : Fine word
-
--- the number of the word at an offset is too large
-pub record LargeWord (bs : List ℕ) (at : ℕ) : Type 0 where
-  pub word : List ℕ
-  pub next : ℕ
-  pub takes : Takes bs at next word
-  pub large : TooLarge word

@@ -1,9 +1,13 @@
 // Why a record has no sentence.
-ghost use Rattle.std.specs.Prelude.{◌≡◌};
-ghost use Rattle.wording.specs.Faults.{number_of, layer_of, place_of};
-ghost use Rattle.wording.specs.declared.fault.WordingFault.TheVariants.{Reading as ReadingCase};
+ghost use Rattle.std.specs.Prelude.{◌≡◌, Some};
+ghost use Rattle.wording.specs.Faults.{number_of, layer_of, place_of, shown};
+ghost use Rattle.wording.specs.declared.fault.WordingFault.TheVariants.{Reading as ReadingCase, Sentence as SentenceCase, Range as RangeCase};
 
+use crate::ranges::LargeNumber;
+use grammar::sentence::Misworded;
 use reading::fault::{Layer, ReadingFault};
+use std::error::Error;
+use std::fmt;
 
 #[derive(Clone, Copy, Debug, PartialEq, Eq)]
 pub enum WordingFault {
@@ -21,6 +25,22 @@ impl From<ReadingFault> for WordingFault {
 
     fn from(fault: ReadingFault) -> WordingFault {
         Self::Reading(fault)
+    }
+}
+
+impl From<Misworded> for WordingFault {
+    ghost from_gives = { λ f r. r ≡ SentenceCase f.at };
+
+    fn from(fault: Misworded) -> WordingFault {
+        Self::Sentence(fault.at)
+    }
+}
+
+impl From<LargeNumber> for WordingFault {
+    ghost from_gives = { λ f r. r ≡ RangeCase f.at };
+
+    fn from(fault: LargeNumber) -> WordingFault {
+        Self::Range(fault.at)
     }
 }
 
@@ -42,8 +62,7 @@ impl WordingFault {
     {
         match self {
             WordingFault::Reading(fault) => fault.layer(),
-            WordingFault::Sentence(_) => Layer::Wording,
-            WordingFault::Range(_) => Layer::Wording,
+            WordingFault::Sentence(_) | WordingFault::Range(_) => Layer::Wording,
         }
     }
 
@@ -53,8 +72,17 @@ impl WordingFault {
     {
         match self {
             WordingFault::Reading(fault) => fault.place(),
-            WordingFault::Sentence(at) => *at,
-            WordingFault::Range(at) => *at,
+            WordingFault::Sentence(at) | WordingFault::Range(at) => *at,
         }
     }
 }
+
+impl fmt::Display for WordingFault {
+    ghost output = { λ fault. Some (shown fault) };
+
+    fn fmt<W: fmt::Write>(&self, f: &mut fmt::Formatter<W>) -> fmt::Result {
+        write!(f, "no {} at {}", self.number(), self.place())
+    }
+}
+
+impl Error for WordingFault {}

@@ -1,7 +1,7 @@
 // What the body of a record says, or where it stops making sense.
 #![tactic(auto)]
 
-ghost use Rattle.wording.specs.Answers.{AnswersAt, InRange, Parsed};
+ghost use Rattle.wording.specs.Answers.{AnswersAt, Parsed};
 
 pub mod fault;
 pub mod issued;
@@ -14,24 +14,13 @@ use issued::IssuedSentence;
 use ranges::ranges;
 use reading::read;
 
-// The sentence of a body, if the numbers there are in range.
-fn in_range(sentence: Sentence, body: &[u8]) -> Result<Sentence, WordingFault>
-    ensures { InRange body.now sentence result }
-{
-    match ranges(body) {
-        Ok(()) => Ok(sentence),
-        Err(place) => Err(WordingFault::Range(place)),
-    }
-}
-
 // The sentence of a body, its numbers in range; or the place where the body goes wrong.
 pub fn sentence_of(body: &[u8]) -> Result<Sentence, WordingFault>
     ensures { Parsed body.now result }
 {
-    match parse(body) {
-        Ok(sentence) => in_range(sentence, body),
-        Err(place) => Err(WordingFault::Sentence(place)),
-    }
+    let sentence = parse(body)?;
+    ranges(body)?;
+    Ok(sentence)
 }
 
 // The sentence of the record at an offset of an input, or none at the input's end.

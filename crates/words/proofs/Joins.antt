@@ -1,21 +1,18 @@
 -- Cutting a body into its words and joining words into a body undo each other.
-use Rattle.std.proofs.Common.{◌≡◌, ℕ, eqb, List, [], ◌∷◌, ◌++◌, sym, refl, ap, ◌∙◌, arith}
+use Rattle.std.proofs.Common.{◌≡◌, ℕ, eqb, List, [], ◌∷◌, ◌++◌, sym, refl, ap, ◌∙◌}
 use Rattle.std.specs.List.{AllByRecursion}
 use Rattle.std.proofs.lemmas.Bool.{cond_both, cond-false, eqb-true, ne_eqb}
 use Rattle.words.specs.Words.{words, words_from, longer, join}
 
-pub nil_cons : (w : List ℕ) (ws : List (List ℕ)) → w ∷ ws ≡ [] → ⊥
-nil_cons w ws e = let z : ◌≡◌ {A = ℕ} 0 1 = cc in omega arith
-
 longer_some : (b : ℕ) (ws : List (List ℕ)) → longer b ws ≡ [] → ⊥
-longer_some b [] e = nil_cons _ _ e
-longer_some b (w ∷ ws) e = nil_cons _ _ e
+longer_some b [] e = cc
+longer_some b (w ∷ ws) e = cc
 
 -- a body has a word
 pub some_word : (bs : List ℕ) → words bs ≡ [] → ⊥
 unfolding words
-some_word [] e = nil_cons _ _ e
-some_word (b ∷ bs) e = cond_both (eqb b 32) ([] ∷ words bs) (longer b (words bs)) (λ l. l ≡ [] → ⊥) (λ _ q. nil_cons _ _ q) (λ _ q. longer_some b (words bs) q) e
+some_word [] e = cc
+some_word (b ∷ bs) e = cond_both (eqb b 32) ([] ∷ words bs) (longer b (words bs)) (λ l. l ≡ [] → ⊥) (λ _ q. cc) (λ _ q. longer_some b (words bs) q) e
 
 pub some_first : (bs : List ℕ) → words_from bs 0 ≡ [] → ⊥
 unfolding words_from
@@ -55,4 +52,4 @@ words_space (b ∷ w) bs h = cond-false (eqb b 32) _ _ (ne_eqb b 32 h.0) ∙ ap 
 pub words_join : (ws : List (List ℕ)) → (ws ≡ [] → ⊥) → AllByRecursion Solid ws → words (join ws) ≡ ws
 words_join [] f h = absurd (f refl)
 words_join (w ∷ []) f h = words_word w h.0
-words_join (w ∷ x ∷ ws) f h = words_space w (join (x ∷ ws)) h.0 ∙ ap (λ l. w ∷ l) (words_join (x ∷ ws) (nil_cons x ws) h.1)
+words_join (w ∷ x ∷ ws) f h = words_space w (join (x ∷ ws)) h.0 ∙ ap (λ l. w ∷ l) (words_join (x ∷ ws) (λ e. cc) h.1)

@@ -1,5 +1,5 @@
 -- The words of a body, and how numbers, principals and objects are written.
-use Rattle.std.specs.Prelude.{◌≡◌, ℕ, zero, suc, ◌+◌, ◌/◌, ◌%◌, ◌≤◌, cond, ◌⊎◌, List, [], ◌∷◌, ◌++◌, length, ◌==◌, nat_lt, slice_index}
+use Rattle.std.specs.Prelude.{◌≡◌, ℕ, zero, suc, ◌+◌, ◌/◌, ◌%◌, ◌≤◌, cond, List, [], ◌∷◌, ◌++◌, length, ◌==◌, nat_lt}
 use Rattle.model.specs.declared.principal.Principal.{Principal}
 use Rattle.model.specs.declared.principal.Principal.TheVariants.{User, Role}
 use Rattle.words.specs.declared.token.Token.{Token}
@@ -11,12 +11,6 @@ digits n = cond (nat_lt n 10) ((48 + n) ∷ []) ((48 + n / 10) ∷ (48 + n % 10)
 
 abbrev pub Numeral : List ℕ → Type 0
 Numeral w = (n : ℕ) × (n ≤ 99) × (w ≡ digits n)
-
--- the same by the bytes of the word
-abbrev pub Shows : List ℕ → ℕ → Type 0
-Shows w n =
-    ((length w ≡ 1) × (n ≤ 9) × (slice_index w 0 ≡ 48 + n))
-    ⊎ ((length w ≡ 2) × (10 ≤ n) × (n ≤ 99) × (slice_index w 0 ≡ 48 + n / 10) × (slice_index w 1 ≡ 48 + n % 10))
 
 -- the number of a user or a role
 abbrev pub index : Principal → ℕ
@@ -73,8 +67,15 @@ text (token.Principal s o q) = s.now
 text (token.Object s o n) = s.now
 text (token.Number s o n) = s.now
 
+abbrev pub place : Token → ℕ
+place (token.Keyword s o) = o
+place (token.Principal s o q) = o
+place (token.Object s o n) = o
+place (token.Number s o n) = o
+
 -- the token is the word at the offset, and the next word begins past the space after it
 pub record WordAt (bs : List ℕ) (at : ℕ) (t : Token) : Type 0 where
   pub tells : Tells (text t) at t
+  pub stands : place t ≡ at
   pub first : words_from bs at ≡ text t ∷ words_from bs (at + length (text t) + 1)
   pub within : at + length (text t) ≤ length bs

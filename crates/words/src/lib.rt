@@ -1,17 +1,18 @@
 // The words of a body, told apart.
 #![tactic(auto)]
 
-ghost use Rattle.std.specs.Prelude.{◌≡◌, ℕ, ◌<◌, ◌≤◌, [], length, drop, MatchOption, ◌≢◌, slice_index};
-ghost use Rattle.words.specs.Words.{digits, words_from, Numeral, PrincipalWord, ObjectWord, Shows, Tells, WordAt};
+ghost use Rattle.std.specs.Prelude.{◌≡◌, ◌==◌, ◌<◌, ◌≤◌, [], length, position, slice_range, MatchOption};
+ghost use Rattle.words.specs.Words.{digits, words_from, Numeral, PrincipalWord, ObjectWord, Tells, WordAt};
 
+pub mod iter;
 pub mod token;
 
 use model::principal::Principal;
 use token::Token;
 
-// The number that a word shows, by its bytes.
-fn value(word: &[u8]) -> Option<u8>
-    ensures { MatchOption result (((n : ℕ) → Shows word.now n → ⊥)) (Shows word.now) }
+// The number that a word writes: one digit, or two of which the first is not 0.
+pub fn number(word: &[u8]) -> Option<u8>
+    ensures { MatchOption result (Numeral word.now → ⊥) (λ n. (n ≤ 99) × (word.now ≡ digits n)) }
 {
     match word {
         [b @ b'0'..=b'9'] => Some(*b - b'0'),
@@ -20,23 +21,12 @@ fn value(word: &[u8]) -> Option<u8>
     }
 }
 
-// The number that a word writes: one digit, or two of which the first is not 0.
-pub fn number(word: &[u8]) -> Option<u8>
-    ensures { MatchOption result (Numeral word.now → ⊥) (λ n. (n ≤ 99) × (word.now ≡ digits n)) }
-{
-    value(word)
-}
-
 // What a word names that is the letter u, r or o and a number; none for any other word.
 fn named<'a>(text: &'a [u8], at: usize) -> Option<Token<'a>>
     ensures { MatchOption result ((PrincipalWord text.now → ⊥) × (ObjectWord text.now → ⊥)) (Tells text.now at) }
 {
-    let Some((first, rest)) = text.split_first() else {
-        return None;
-    };
-    let Some(n) = number(rest) else {
-        return None;
-    };
+    let (first, rest) = text.split_first()?;
+    let n = number(rest)?;
     match *first as char {
         'u' => Some(Token::Principal {
             text,
@@ -70,29 +60,18 @@ pub fn classify<'a>(text: &'a [u8], at: usize) -> Token<'a>
     Token::Keyword { text, at }
 }
 
-// How many bytes stand before the first space, or before the end.
-fn space(rest: &[u8]) -> usize
-    ensures within { result ≤ length rest.now }
-    ensures before { (k : ℕ) → k < result → slice_index rest.now k ≢ 32 }
-    ensures found { result < length rest.now → slice_index rest.now result ≡ 32 }
+// Where the first space stands.
+fn space(rest: &[u8]) -> Option<usize>
+    ensures { result ≡ position (λ b. b == 32) rest.now }
 {
-    for (i, b) in rest.iter().enumerate() {
-        if *b == b' ' {
-            return i;
-        }
-    }
-    rest.len()
+    rest.iter().position(|b| *b == b' ')
 }
 
 // What stands from an offset on, or nothing past the end.
-fn rest_from<'a>(body: &'a [u8], at: usize) -> Option<&'a [u8]>
-    ensures { MatchOption result (length body.now < at) (λ x. (at ≤ length body.now) × (x.now ≡ drop at body.now)) }
+fn rest_from(body: &[u8], at: usize) -> Option<&[u8]>
+    ensures { MatchOption result (length body.now < at) (λ x. (at ≤ length body.now) × (x.now ≡ slice_range body.now at (length body.now))) }
 {
-    if at > body.len() {
-        None
-    } else {
-        Some(&body[at..])
-    }
+    body.get(at..)
 }
 
 // The word that begins at an offset, or none past the end.
@@ -100,9 +79,7 @@ fn rest_from<'a>(body: &'a [u8], at: usize) -> Option<&'a [u8]>
 pub fn word_at<'a>(body: &'a [u8], at: usize) -> Option<Token<'a>>
     ensures { MatchOption result (words_from body.now at ≡ []) (λ t. WordAt body.now at t) }
 {
-    let Some(rest) = rest_from(body, at) else {
-        return None;
-    };
-    let n = space(rest);
-    Some(classify(&rest[0..n], at))
+    let rest = rest_from(body, at)?;
+    let n = space(rest).unwrap_or(rest.len());
+    Some(classify(&rest[..n], at))
 }

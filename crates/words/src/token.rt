@@ -1,5 +1,5 @@
 ghost use Rattle.std.specs.Prelude.{◌≡◌};
-ghost use Rattle.words.specs.Words.{text as text_of};
+ghost use Rattle.words.specs.Words.{text as text_of, place as place_of};
 
 use model::principal::Principal;
 
@@ -36,10 +36,22 @@ impl<'a> Token<'a> {
         ensures { result.now ≡ text_of self.now }
     {
         match *self {
-            Token::Keyword { text, .. } => text,
-            Token::Principal { text, .. } => text,
-            Token::Object { text, .. } => text,
-            Token::Number { text, .. } => text,
+            Token::Keyword { text, .. }
+            | Token::Principal { text, .. }
+            | Token::Object { text, .. }
+            | Token::Number { text, .. } => text,
+        }
+    }
+
+    // The word's offset in its body.
+    pub fn at(&self) -> usize
+        ensures { result ≡ place_of self.now }
+    {
+        match *self {
+            Token::Keyword { at, .. }
+            | Token::Principal { at, .. }
+            | Token::Object { at, .. }
+            | Token::Number { at, .. } => at,
         }
     }
 }
