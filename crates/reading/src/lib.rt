@@ -7,6 +7,7 @@ ghost use Rattle.reading.specs.Records.{Reads, Refused};
 
 pub mod fault;
 pub mod record;
+pub mod records;
 pub mod writing;
 
 use fault::ReadingFault;
