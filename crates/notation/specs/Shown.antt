@@ -1,9 +1,9 @@
 -- How records and refusals are shown as text.
-use Rattle.std.specs.Prelude.{◌≡◌, ℕ, ◌+◌, ◌/◌, ◌%◌, ◌<◌, Bool, cond, not, ◌&&◌, List, [], ◌∷◌, ◌++◌, map, Ok, Err, codes, decimal, Result, ◌==◌, nat_le, nat_lt}
+use Rattle.std.specs.Prelude.{◌≡◌, ℕ, ◌+◌, ◌/◌, ◌%◌, ◌<◌, Bool, cond, not, ◌&&◌, List, [], ◌∷◌, ◌++◌, map, Ok, Err, decimal, Result, ◌==◌, nat_le, nat_lt}
 use Rattle.std.specs.List.{flat_map, AllByRecursion}
 use Rattle.notation.specs.declared.bodies.Bodies.{Bodies}
 use Rattle.notation.specs.declared.bodies.Bodies.TheVariants.{Any, Sentences}
-use Rattle.reading.specs.Faults.{number_of, place_of}
+use Rattle.reading.specs.Faults.{number_of, place_of, told}
 use Rattle.reading.specs.Records.{Frame}
 use Rattle.reading.specs.Cut.{Entry, Sound}
 use Rattle.grammar.specs.declared.sentence.Sentence.{Sentence}
@@ -31,10 +31,6 @@ head n = 117 ∷ (decimal n ++ (32 ∷ []))
 -- u0 ROLE r0 LEVEL 2
 abbrev pub line : Frame → List ℕ
 line f = head f.issuer ++ flat_map shown f.body
-
--- no 6 at 34
-abbrev pub told : ℕ → ℕ → List ℕ
-told number place = codes "no " ++ (decimal number ++ (codes " at " ++ decimal place))
 
 -- behind a body that is no sentence, a tab and why
 abbrev pub remark : Result Sentence WordingFault → List ℕ
