@@ -14,6 +14,7 @@ use fault::ReadingFault;
 use record::Record;
 
 // The record at an offset of the input, or none at the input's end.
+#[tactic(auto, using(crate::proofs::Covering::reading_laws))]
 pub fn read(input: &[u8], at: usize) -> Result<Option<Record<'_>>, ReadingFault>
     ensures answer { MatchResult result (λ o. MatchOption o (at ≡ length input.now) (λ x. Reads input.now at x)) (λ f. Refused input.now at f) }
     ensures laws { ReadingLaws }
