@@ -1,10 +1,12 @@
 // The records of an input as lines, and the refusal at which they end.
 ghost use Rattle.std.specs.Prelude.{◌≡◌, ℕ, List, ◌++◌, IfOk, string_bytes, OnOk};
 ghost use Rattle.std.specs.List.{flat_map};
+ghost use Rattle.reading.specs.Records.{frame};
 ghost use Rattle.notation.specs.Results.{Listed};
 ghost use Rattle.notation.specs.Shown.{RemarkOn, ended, line, shown};
 
 use crate::escape::is_plain;
+use reading::record::Record;
 use reading::records::Records;
 use std::alloc::{AllocError, Global};
 use wording::sentence_of;
@@ -16,7 +18,7 @@ pub fn listing(heap: Global, input: &[u8]) -> Result<String, AllocError>
     let mut out = String::new(heap);
     for entry in Records::new(input) {
         match entry {
-            Ok(record) => show_record(&mut out, record.issuer, record.body)?,
+            Ok(record) => show_record(&mut out, record)?,
             Err(fault) => writeln!(out, "{fault}")?,
         }
     }
@@ -24,9 +26,10 @@ pub fn listing(heap: Global, input: &[u8]) -> Result<String, AllocError>
 }
 
 // The line of a record, with a remark if its body is no sentence.
-fn show_record(out: &mut String, issuer: u8, body: &[u8]) -> Result<(), AllocError>
-    ensures { OnOk result ((m : List ℕ) × (RemarkOn body.now m × (string_bytes out.new ≡ string_bytes out.old ++ ended (line (record { issuer = issuer; body = body.now }) ++ m)))) }
+fn show_record(out: &mut String, found: Record<'_>) -> Result<(), AllocError>
+    ensures { OnOk result ((m : List ℕ) × (RemarkOn found.entry.body.now m × (string_bytes out.new ≡ string_bytes out.old ++ ended (line (frame found.entry) ++ m)))) }
 {
+    let Record { issuer, body, .. } = found;
     write!(out, "u{issuer} ")?;
     show_body(out, body)?;
     show_remark(out, body)?;
