@@ -40,13 +40,12 @@ fn explain(rt: &HostRuntime, number: usize, bodies: Bodies) -> anyhow::Result<()
     eprintln!(rt;
         "line {number}: no record: a line is uN, a space and a text, with N from 0 to 63 and 1 to 64 bytes in the text"
     )?;
-    if matches!(bodies, Bodies::Sentences) {
+    if bodies == Bodies::Sentences {
         eprintln!(rt; "and the text has to be a sentence, with its numbers in range")?;
     }
     Ok(())
 }
 
 fn main(rt: HostRuntime) -> anyhow::Result<()> {
-    let ran = run(&rt);
-    ran
+    run(&rt)
 }

@@ -13,6 +13,5 @@ fn run(rt: &HostRuntime) -> anyhow::Result<()> {
 }
 
 fn main(rt: HostRuntime) -> anyhow::Result<()> {
-    let ran = run(&rt);
-    ran
+    run(&rt)
 }

@@ -1,18 +1,19 @@
 -- Listing an input record by record.
-use Rattle.std.proofs.Common.{◌≡◌, ℕ, ◌≤◌, List, [], ◌∷◌, ◌++◌, map, length, None, Ok, Err, Option, Result, sym, refl, ap, ◌∙◌, subst, append_assoc, append-nil, arith}
+use Rattle.std.proofs.Common.{◌≡◌, ℕ, ◌≤◌, ◌⊎◌, List, [], ◌∷◌, ◌++◌, map, length, None, Ok, Err, Option, Result, sym, refl, ap, ◌∙◌, subst, inl, inr, append_assoc, append-nil, arith}
 use Rattle.std.proofs.ByRecursion.{All-push}
 use Rattle.std.proofs.lemmas.List.{flat_map_more, map_push}
 use Rattle.std.proofs.lemmas.Option.{MatchOption-at_none}
 use Rattle.std.specs.List.{AllByRecursion}
-use Rattle.reading.specs.Faults.{number_of, place_of}
-use Rattle.reading.specs.Records.{Frame, Stands, Refused, after}
+use Rattle.reading.specs.Faults.{number_of, place_of, told}
+use Rattle.reading.specs.Records.{Frame, Stands, Refused, after, frame, Reads}
 use Rattle.reading.specs.Cut.{Entry, Cut, with_record, frames, or_fault, damage, Sound, bytes_of, written}
 use Rattle.reading.specs.declared.fault.ReadingFault.{ReadingFault}
+use Rattle.reading.specs.declared.record.Record.{Record}
 use Rattle.reading.proofs.Covering.{reading_laws}
 use Rattle.reading.proofs.Cuts.{ends_within}
 use Rattle.notation.specs.Lines.{lines, unremarked, kept}
 use Rattle.notation.specs.Results.{Listed}
-use Rattle.notation.specs.Shown.{line, told, ended, Item, RemarkOn, Remarked, RightlyRemarked, shown_entry, listed, entries_of, Byte, Statable}
+use Rattle.notation.specs.Shown.{line, ended, Item, RemarkOn, Remarked, RightlyRemarked, shown_entry, listed, entries_of, Byte, Statable}
 use Rattle.notation.proofs.Splitting.{lines_feed}
 use Rattle.notation.proofs.Visible.{Remark, remark_shape, line_visible, before_remark, one_line}
 
@@ -104,3 +105,22 @@ module _ (input : List ℕ) (at : ℕ) (out : List ℕ) (g : Going input at out)
       let x : Item = record { entry = record { offset = at; what = Err k }; remark = [] } in
       done_listed input (g.done ++ (x ∷ [])) text (subst (Cut input 0) (sym (map_push (λ y. y.entry) g.done x)) (g.cut (x.entry ∷ []) (refl, (h, refl))))
       (All-push RightlyRemarked g.done x g.remarked refl) (longer x text e)
+
+-- part of the input is listed, or all of it: up to its end, or with the fault that takes the rest
+pub record Progress (input : List ℕ) (at : ℕ) (out : List ℕ) : Type 0 where
+  pub so_far : Going input at out ⊎ ((at ≡ length input) × Listed input out)
+
+module _ (input : List ℕ) (at : ℕ) (out : List ℕ) (p : Progress input at out) where
+  pub record_shown : (r : Record) → Reads input at r → (m : List ℕ) → RemarkOn r.body.now m → (text : List ℕ) → text ≡ out ++ ended (line (frame r) ++ m) → Progress input r.next text
+  record_shown r h m k text e =
+      elim p.so_far [
+        | inl g ↦ record { so_far = inl (next input at out g (frame r) h.stands m k text e r.next h.next) }
+        | inr d ↦ absurd (let y = h.stands.yes.0 in let z = d.0 in omega arith)
+      ]
+
+  pub fault_shown : (k : ReadingFault) → Refused input at k → (text : List ℕ) → text ≡ out ++ ended (told (number_of k) (place_of k)) → Progress input (length input) text
+  fault_shown k h text e =
+      elim p.so_far [ inl g ↦ record { so_far = inr (refl, spoiled input at out g k h text e) } | inr d ↦ absurd (h.more d.0) ]
+
+  pub all_shown : at ≡ length input → Listed input out
+  all_shown e = elim p.so_far [ inl g ↦ finish input at out g e | inr d ↦ d.1 ]

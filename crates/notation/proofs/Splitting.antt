@@ -1,10 +1,13 @@
 -- Where a text is cut into lines.
-use Rattle.std.proofs.Common.{◌≡◌, ℕ, ◌+◌, ◌-◌, ◌<◌, ◌≤◌, true, false, cond, eqb, List, [], ◌∷◌, ◌++◌, length, get_or, take, drop, sym, refl, ap, ◌∙◌, inl, inr, arith, length-drop}
-use Rattle.std.proofs.ByRecursion.{All-from_get_or}
-use Rattle.std.proofs.lemmas.List.{drop_all, drop-drop, drop_more, get_or-take, get_or-drop, take-append-drop, take_all, length-take-le}
-use Rattle.std.proofs.lemmas.Bool.{cases_lt, cond-true, cond-false, eq-eqb, ne_eqb}
-use Rattle.std.specs.List.{AllByRecursion}
-use Rattle.notation.specs.Lines.{lines, with_first, unremarked, skipped, kept}
+use Rattle.std.proofs.Common.{◌≡◌, ℕ, ◌<◌, Bool, false, cond, eqb, ltb, not, ◌⊎◌, List, [], ◌∷◌, ◌++◌, map, length, get_or, take, Some, None, sym, ap, refl, ◌∙◌, subst, inl, inr, arith, append-nil}
+use Rattle.std.proofs.lemmas.List.{get_or_append_left, get_or_push, length_push, map_push, take_all, take-append-le}
+use Rattle.std.proofs.lemmas.List.Elements.{filter-append}
+use Rattle.std.proofs.lemmas.List.Splits.{slice_split-cons_yes, slice_split-cons_no}
+use Rattle.std.proofs.lemmas.List.Sums.{take_while-cons}
+use Rattle.std.proofs.lemmas.Bool.Decides.{nat_tests}
+use Rattle.std.proofs.lemmas.Bool.{both_ways, cases_Bool, cases_eq, cases_lt, cond-true, cond-false, eq-eqb, ne_eqb}
+use Rattle.std.specs.List.{AllByRecursion, onto_first, position, position_or_len, slice_split}
+use Rattle.notation.specs.Lines.{lines, with_first, unremarked, skipped, kept, statements}
 
 abbrev pub NoFeed : ℕ → Type 0
 NoFeed b = b ≡ 10 → ⊥
@@ -17,57 +20,90 @@ pub lines_feed : (l rest : List ℕ) → AllByRecursion NoFeed l → lines (l ++
 lines_feed [] rest n = refl
 lines_feed (b ∷ bs) rest n = goes_on b (bs ++ (10 ∷ rest)) n.0 ∙ ap (with_first b) (lines_feed bs rest n.1)
 
--- a last line without one
-lines_last : (b : ℕ) (bs : List ℕ) → AllByRecursion NoFeed (b ∷ bs) → lines (b ∷ bs) ≡ (b ∷ bs) ∷ []
-lines_last b [] n = goes_on b [] n.0
-lines_last b (d ∷ bs) n = goes_on b (d ∷ bs) n.0 ∙ ap (with_first b) (lines_last d bs n.1)
+-- the parts of a text between its line feeds
+abbrev pub parts : List ℕ → List (List ℕ)
+parts text = slice_split (λ b. eqb b 10) text
 
-lines_whole : (l : List ℕ) → 0 < length l → AllByRecursion NoFeed l → lines l ≡ l ∷ []
-lines_whole [] some n = absurd (omega arith)
-lines_whole (b ∷ bs) some n = lines_last b bs n
+onto_is : (b : ℕ) (ls : List (List ℕ)) → onto_first b ls ≡ with_first b ls
+onto_is b [] = refl
+onto_is b (l ∷ ls) = refl
 
-module _ (text : List ℕ) (at end : ℕ) (low : at ≤ end) (high : end ≤ length text) (none : (k : ℕ) → at ≤ k → k < end → get_or text k 0 ≡ 10 → ⊥) (feed : end < length text → get_or text end 0 ≡ 10) (more : at < length text) where
-  part : List ℕ
-  part = take (end - at) (drop at text)
+joined : (b : ℕ) (ls : List (List ℕ)) → (onto_first b (ls ++ ([] ∷ [])) ≡ with_first b ls) ⊎ (onto_first b (ls ++ ([] ∷ [])) ≡ with_first b ls ++ ([] ∷ []))
+joined b [] = inl refl
+joined b (l ∷ ls) = inr refl
 
-  part_length : length part ≡ end - at
-  unfolding part
-  part_length = length-take-le (end - at) (drop at text) (let k = length-drop at text in omega arith)
-
-  part_plain : AllByRecursion NoFeed part
-  unfolding part
-  part_plain =
-      All-from_get_or NoFeed part 0
-      (λ i l e. let k = part_length in none (at + i) (omega arith) (omega arith) (sym (get_or-drop at text i 0) ∙ sym (get_or-take (end - at) (drop at text) i 0 (omega arith)) ∙ e))
-
-  splits_at : drop at text ≡ part ++ drop end text
-  unfolding part
-  splits_at = sym (take-append-drop (end - at) (drop at text)) ∙ ap (λ xs. part ++ xs) (drop-drop (end - at) at text ∙ ap (λ k. drop k text) (omega arith))
-
-  -- the lines from an offset on are the one that ends there, and those after it
-  pub first_line : lines (drop at text) ≡ take (end - at) (drop at text) ∷ lines (drop (end + 1) text)
-  unfolding part
-  first_line =
-      elim (cases_lt end (length text)) [
-        | inl l ↦ (ap lines (splits_at ∙ ap (λ xs. part ++ xs) (drop_more text end 0 l ∙ ap (λ b. b ∷ drop (end + 1) text) (feed l))) ∙ lines_feed part (drop (end + 1) text) part_plain)
-        | inr l ↦ (let whole : part ≡ drop at text = take_all (end - at) (drop at text) (let k = length-drop at text in omega arith) in
-            let k = part_length in
-            ap lines (sym whole) ∙ lines_whole part (omega arith) part_plain ∙ ap (λ xs. part ∷ lines xs) (sym (drop_all (end + 1) text (omega arith))))
-      ]
+-- the parts are the lines, and behind a last line feed one part more, which is empty
+pub parts_lines : (text : List ℕ) → (parts text ≡ lines text) ⊎ (parts text ≡ lines text ++ ([] ∷ []))
+parts_lines [] = inr refl
+parts_lines (b ∷ bs) =
+    let is : ℕ → Bool = λ x. eqb x 10 in
+    elim (cases_eq b 10) [
+      | inl e ↦ (let cut : parts (b ∷ bs) ≡ [] ∷ parts bs = slice_split-cons_yes is b bs (eq-eqb b 10 e) in
+          let ends : lines (b ∷ bs) ≡ [] ∷ lines bs = cond-true (eqb b 10) ([] ∷ lines bs) (with_first b (lines bs)) (eq-eqb b 10 e) in
+          elim (parts_lines bs) [
+            | inl h ↦ inl (cut ∙ ap (λ ls. [] ∷ ls) h ∙ sym ends)
+            | inr h ↦ inr (cut ∙ ap (λ ls. [] ∷ ls) h ∙ ap (λ ls. ls ++ ([] ∷ [])) (sym ends))
+          ])
+      | inr n ↦ (let cut : parts (b ∷ bs) ≡ onto_first b (parts bs) = slice_split-cons_no is b bs (ne_eqb b 10 n) in
+          let on : lines (b ∷ bs) ≡ with_first b (lines bs) = goes_on b bs n in
+          elim (parts_lines bs) [
+            | inl h ↦ inl (cut ∙ ap (onto_first b) h ∙ onto_is b (lines bs) ∙ sym on)
+            | inr h ↦ elim (joined b (lines bs)) [
+              | inl j ↦ inl (cut ∙ ap (onto_first b) h ∙ j ∙ sym on)
+              | inr j ↦ inr (cut ∙ ap (onto_first b) h ∙ j ∙ ap (λ ls. ls ++ ([] ∷ [])) (sym on))
+            ]
+          ])
+    ]
 
 -- kept lines, one more at the end
-pub kept_more : (ls : List (List ℕ)) (l : List ℕ) → kept (ls ++ (l ∷ [])) ≡ kept ls ++ cond (skipped l) [] (l ∷ [])
-kept_more [] l = refl
-kept_more (k ∷ ls) l =
-    let end = cond (skipped l) [] (l ∷ []) in
-    elim (skipped k) as (λ b. cond b (kept (ls ++ (l ∷ []))) (k ∷ kept (ls ++ (l ∷ []))) ≡ cond b (kept ls) (k ∷ kept ls) ++ end) [
-      | true ↦ kept_more ls l
-      | false ↦ ap (λ xs. k ∷ xs) (kept_more ls l)
+pub kept_more : (ls : List (List ℕ)) (l : List ℕ) → kept (ls ++ (l ∷ [])) ≡ kept ls ++ kept (l ∷ [])
+kept_more ls l = filter-append (λ x. not (skipped x)) ls (l ∷ [])
+
+-- a part that states something is a line
+pub part_is_line : (text l : List ℕ) (n : ℕ) → n < length (parts text) → l ≡ get_or (parts text) n l → skipped (unremarked l) ≡ false
+    → (n < length (lines text)) × ((l ≡ get_or (lines text) n l) × (take n (parts text) ≡ take n (lines text)))
+part_is_line text l n inside here states =
+    elim (parts_lines text) [
+      | inl e ↦ (subst (λ ls. n < length ls) e inside, (here ∙ ap (λ ls. get_or ls n l) e, ap (take n) e))
+      | inr e ↦ (let long = ap length e in
+          let more = length_push (lines text) [] in
+          elim (cases_lt n (length (lines text))) [
+            | inl k ↦ (k, (here ∙ ap (λ ls. get_or ls n l) e ∙ get_or_append_left (lines text) ([] ∷ []) l n k, ap (take n) e ∙ take-append-le n (lines text) ([] ∷ []) (omega arith)))
+            | inr k ↦ (let empty : l ≡ [] = here ∙ ap (λ ls. get_or ls n l) e ∙ get_or_push (lines text) [] l n (omega arith) in
+                absurd (both_ways (skipped (unremarked l)) states (ap (λ x. skipped (unremarked x)) empty)))
+          ])
+    ]
+
+-- the lines state what the parts do
+pub same_statements : (text : List ℕ) → kept (map unremarked (parts text)) ≡ statements text
+same_statements text =
+    elim (parts_lines text) [
+      | inl e ↦ ap (λ ls. kept (map unremarked ls)) e
+      | inr e ↦ (ap (λ ls. kept (map unremarked ls)) e ∙ ap kept (map_push unremarked (lines text) []) ∙ kept_more (map unremarked (lines text)) [] ∙ append-nil (statements text))
     ]
 
 -- a remark begins at the first tab
 pub unremarked_tab : (b : ℕ) (bs : List ℕ) → b ≡ 9 → unremarked (b ∷ bs) ≡ []
-unremarked_tab b bs e = cond-true (eqb b 9) [] (b ∷ unremarked bs) (eq-eqb b 9 e)
+unremarked_tab b bs e = ap (λ x. unremarked (x ∷ bs)) e
 
 pub unremarked_more : (b : ℕ) (bs : List ℕ) → (b ≡ 9 → ⊥) → unremarked (b ∷ bs) ≡ b ∷ unremarked bs
-unremarked_more b bs n = cond-false (eqb b 9) [] (b ∷ unremarked bs) (ne_eqb b 9 n)
+unremarked_more b bs n = take_while-cons (λ x. not (eqb x 9)) b bs ∙ ap (λ t. cond (not t) (b ∷ unremarked bs) []) (ne_eqb b 9 n)
+
+-- the statement ends where the first tab is
+pub to_tab : (l : List ℕ) (tab : ℕ) → position (λ b. eqb b 9) l ≡ Some tab → take tab l ≡ unremarked l
+to_tab l tab e =
+    let n = position_or_len (λ b. eqb b 9) l in
+    elim (cases_Bool (ltb n (length l))) [
+      | inl t ↦ (let found : Some n ≡ Some tab = sym (cond-true (ltb n (length l)) (Some n) None t) ∙ e in
+          let same : n ≡ tab = cc in
+          ap (λ k. take k l) (sym same))
+      | inr f ↦ absurd (let lost : None ≡ Some tab = sym (cond-false (ltb n (length l)) (Some n) None f) ∙ e in let z : ◌≡◌ {A = ℕ} 0 1 = cc in omega arith)
+    ]
+
+pub no_tab : (l : List ℕ) → position (λ b. eqb b 9) l ≡ None → l ≡ unremarked l
+no_tab l e =
+    let n = position_or_len (λ b. eqb b 9) l in
+    elim (cases_Bool (ltb n (length l))) [
+      | inl t ↦ absurd (let lost : Some n ≡ None = sym (cond-true (ltb n (length l)) (Some n) None t) ∙ e in let z : ◌≡◌ {A = ℕ} 0 1 = cc in omega arith)
+      | inr f ↦ sym (take_all n l (grind (arith, nat_tests)))
+    ]

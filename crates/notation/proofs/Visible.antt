@@ -8,10 +8,11 @@ use Rattle.std.specs.List.{flat_map, AllByRecursion}
 use Rattle.grammar.specs.declared.sentence.Sentence.{Sentence}
 use Rattle.wording.specs.Faults.{number_of, place_of}
 use Rattle.wording.specs.declared.fault.WordingFault.{WordingFault}
+use Rattle.reading.specs.Faults.{told}
 use Rattle.reading.specs.Records.{Frame}
 use Rattle.reading.specs.Cut.{Sound}
 use Rattle.notation.specs.Lines.{unremarked}
-use Rattle.notation.specs.Shown.{plain, hex, shown, head, line, told, remark}
+use Rattle.notation.specs.Shown.{plain, hex, shown, head, line, remark}
 use Rattle.notation.proofs.Heads.{head_one, head_two}
 use Rattle.notation.proofs.Showing.{shown_plain, shown_escaped}
 use Rattle.notation.proofs.Splitting.{NoFeed, unremarked_tab, unremarked_more}

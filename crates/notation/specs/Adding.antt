@@ -2,7 +2,11 @@
 use Rattle.std.specs.Prelude.{◌≡◌, ℕ, ◌+◌, ◌<◌, true, false, ◌⊎◌, List, ◌++◌, ◌≢◌}
 use Rattle.reading.specs.Records.{Frame}
 use Rattle.reading.specs.Cut.{bytes_of}
+use Rattle.reading.specs.declared.writing.WriteFault.{WriteFault}
+use Rattle.reading.specs.declared.writing.WriteFault.TheVariants.{Issuer, Length, Memory}
 use Rattle.notation.specs.declared.bodies.Bodies.{Bodies}
+use Rattle.notation.specs.declared.line.LineFault.{LineFault}
+use Rattle.notation.specs.declared.line.LineFault.TheVariants as line_fault
 use Rattle.notation.specs.Lines.{skipped}
 use Rattle.notation.specs.Shown.{line, Statable, Passes}
 
@@ -30,3 +34,9 @@ Taken bodies l before after = ((skipped l ≡ true) × (after ≡ before)) ⊎ (
 
 abbrev pub NotTaken : Bodies → List ℕ → Type 0
 NotTaken bodies l = (skipped l ≡ false) × NotAdded bodies l
+
+-- a record that cannot be written has no line
+abbrev pub of_write : WriteFault → LineFault
+of_write Issuer = line_fault.Unstated
+of_write Length = line_fault.Unstated
+of_write Memory = line_fault.Memory

@@ -1,9 +1,9 @@
 -- How records and refusals are shown as text.
-use Rattle.std.specs.Prelude.{◌≡◌, ℕ, ◌+◌, ◌/◌, ◌%◌, ◌<◌, Bool, cond, not, ◌&&◌, List, [], ◌∷◌, ◌++◌, map, Ok, Err, codes, decimal, Result, ◌==◌, nat_le, nat_lt}
+use Rattle.std.specs.Prelude.{◌≡◌, ℕ, ◌+◌, ◌/◌, ◌%◌, ◌<◌, Bool, not, if◌then◌else◌, ◌&&◌, List, [], ◌∷◌, ◌++◌, map, Ok, Err, decimal, Result, ◌==◌, nat_le, nat_lt}
 use Rattle.std.specs.List.{flat_map, AllByRecursion}
 use Rattle.notation.specs.declared.bodies.Bodies.{Bodies}
 use Rattle.notation.specs.declared.bodies.Bodies.TheVariants.{Any, Sentences}
-use Rattle.reading.specs.Faults.{number_of, place_of}
+use Rattle.reading.specs.Faults.{number_of, place_of, told}
 use Rattle.reading.specs.Records.{Frame}
 use Rattle.reading.specs.Cut.{Entry, Sound}
 use Rattle.grammar.specs.declared.sentence.Sentence.{Sentence}
@@ -18,11 +18,11 @@ plain b = (nat_le 32 b && nat_le b 126) && not (b == 92)
 
 -- the digits 0 to 9 and A to F
 abbrev pub hex : ℕ → ℕ
-hex d = cond (nat_lt d 10) (48 + d) (55 + d)
+hex d = if nat_lt d 10 then 48 + d else 55 + d
 
 -- a byte, or its escape: \x0A
 abbrev pub shown : ℕ → List ℕ
-shown b = cond (plain b) (b ∷ []) (92 ∷ (120 ∷ (hex (b / 16) ∷ (hex (b % 16) ∷ []))))
+shown b = if plain b then b ∷ [] else 92 ∷ (120 ∷ (hex (b / 16) ∷ (hex (b % 16) ∷ [])))
 
 -- u0 and a space
 abbrev pub head : ℕ → List ℕ
@@ -31,10 +31,6 @@ head n = 117 ∷ (decimal n ++ (32 ∷ []))
 -- u0 ROLE r0 LEVEL 2
 abbrev pub line : Frame → List ℕ
 line f = head f.issuer ++ flat_map shown f.body
-
--- no 6 at 34
-abbrev pub told : ℕ → ℕ → List ℕ
-told number place = codes "no " ++ (decimal number ++ (codes " at " ++ decimal place))
 
 -- behind a body that is no sentence, a tab and why
 abbrev pub remark : Result Sentence WordingFault → List ℕ

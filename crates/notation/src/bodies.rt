@@ -1,4 +1,4 @@
-// Which bodies a composed record may have.
+// Which bodies a composed record may have: named cases and no closure, since what `compose` promises is about these two.
 #[derive(Clone, Copy, Debug, PartialEq, Eq)]
 pub enum Bodies {
     // any, so that files with faults can be made for tests

@@ -1,5 +1,5 @@
 // One byte of a body as text: itself, or an escape.
-ghost use Rattle.std.specs.Prelude.{◌≡◌, ℕ, ◌+◌, ◌*◌, ◌<◌, ◌≤◌, List, ◌++◌, length, drop, MatchOption, ◌≢◌};
+ghost use Rattle.std.specs.Prelude.{◌≡◌, ℕ, ◌+◌, ◌*◌, ◌/◌, ◌%◌, ◌<◌, false, List, ◌++◌, MatchOption, ◌≢◌};
 ghost use Rattle.notation.specs.Shown.{plain, hex, shown, Byte};
 
 // Whether a byte stands for itself.
@@ -9,16 +9,8 @@ pub(crate) fn is_plain(b: u8) -> bool
     32 <= b && b <= 126 && b != b'\\'
 }
 
-// The digit of a value below sixteen.
-pub(crate) fn hex_digit(d: u8) -> u8
-    requires { d < 16 }
-    ensures { (result ≡ hex d) × (result < 128) }
-{
-    if d < 10 { b'0' + d } else { b'A' - 10 + d }
-}
-
 // The value of a digit, if it is one.
-pub(crate) fn hex_value(c: u8) -> Option<u8>
+fn hex_value(c: u8) -> Option<u8>
     ensures { MatchOption result ((d : ℕ) → d < 16 → hex d ≢ c) (λ d. (d < 16) × (hex d ≡ c)) }
 {
     match c {
@@ -36,36 +28,21 @@ fn from_digits(high: u8, low: u8) -> u8
     high * 16 + low
 }
 
-// The byte that is shown at a place of a text, and where the next one is; none where no byte is shown so.
-pub(crate) fn byte_at(text: &[u8], at: usize) -> Option<(u8, usize)>
-    ensures { MatchOption result ((b : ℕ) (rest : List ℕ) → Byte b → drop at text.now ≢ shown b ++ rest) (λ x. Byte x.0 × (drop at text.now ≡ shown x.0 ++ drop x.1 text.now) × (at < x.1) × (x.1 ≤ length text.now)) }
+// The byte that a text shows first, and the text after it; none where it shows none.
+pub(crate) fn first_byte(text: &[u8]) -> Option<(u8, &[u8])>
+    ensures { MatchOption result ((b : ℕ) (rest : List ℕ) → Byte b → text.now ≢ shown b ++ rest) (λ x. Byte x.0 × (text.now ≡ shown x.0 ++ x.1.now)) }
 {
-    if at >= text.len() {
-        return None;
+    match text {
+        [b'\\', b'x', high, low, rest @ ..] => Some((escaped_byte(*high, *low)?, rest)),
+        [b, rest @ ..] if is_plain(*b) => Some((*b, rest)),
+        _ => None,
     }
-    let first = text[at];
-    if is_plain(first) {
-        return Some((first, at + 1));
-    }
-    if first != b'\\' {
-        return None;
-    }
-    if text.len() - at < 4 {
-        return None;
-    }
-    if text[at + 1] != b'x' {
-        return None;
-    }
-    let Some(high) = hex_value(text[at + 2]) else {
-        return None;
-    };
-    let Some(low) = hex_value(text[at + 3]) else {
-        return None;
-    };
-    let b = from_digits(high, low);
-    // a byte that stands for itself has no escape, so that each body has one text
-    if is_plain(b) {
-        return None;
-    }
-    Some((b, at + 4))
+}
+
+// The byte whose escape ends in these digits; none for one that stands for itself, so that each body has one text.
+fn escaped_byte(high: u8, low: u8) -> Option<u8>
+    ensures { MatchOption result ((b : ℕ) → Byte b → plain b ≡ false → hex (b / 16) ≡ high → hex (b % 16) ≢ low) (λ b. Byte b × (plain b ≡ false) × (hex (b / 16) ≡ high) × (hex (b % 16) ≡ low)) }
+{
+    let b = from_digits(hex_value(high)?, hex_value(low)?);
+    if is_plain(b) { None } else { Some(b) }
 }

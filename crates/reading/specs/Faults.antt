@@ -1,5 +1,5 @@
--- The number, the layer and the place of each reading fault.
-use Rattle.std.specs.Prelude.{ℕ}
+-- The number, the layer and the place of each reading fault, and how a fault is told.
+use Rattle.std.specs.Prelude.{ℕ, List, ◌++◌, codes, decimal}
 use Rattle.reading.specs.declared.fault.Layer.{Layer}
 use Rattle.reading.specs.declared.fault.Layer.TheVariants.{Reading}
 use Rattle.reading.specs.declared.fault.ReadingFault.{ReadingFault}
@@ -23,3 +23,7 @@ place_of (Mark at) = at
 place_of (Issuer at) = at
 place_of (Length at) = at
 place_of (Body at) = at
+
+-- no 6 at 34
+abbrev pub told : ℕ → ℕ → List ℕ
+told number place = codes "no " ++ (decimal number ++ (codes " at " ++ decimal place))

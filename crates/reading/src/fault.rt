@@ -1,6 +1,8 @@
 // Why no record can be read.
-ghost use Rattle.std.specs.Prelude.{◌≡◌};
-ghost use Rattle.reading.specs.Faults.{number_of, layer_of, place_of};
+ghost use Rattle.std.specs.Prelude.{◌≡◌, Some};
+ghost use Rattle.reading.specs.Faults.{number_of, layer_of, place_of, told};
+
+use std::fmt;
 
 // The part of the engine that refuses a record.
 #[derive(Clone, Copy, Debug, PartialEq, Eq)]
@@ -51,11 +53,21 @@ impl ReadingFault {
         ensures { result ≡ place_of self.now }
     {
         match self {
-            ReadingFault::Header(at) => *at,
-            ReadingFault::Mark(at) => *at,
-            ReadingFault::Issuer(at) => *at,
-            ReadingFault::Length(at) => *at,
-            ReadingFault::Body(at) => *at,
+            ReadingFault::Header(at)
+            | ReadingFault::Mark(at)
+            | ReadingFault::Issuer(at)
+            | ReadingFault::Length(at)
+            | ReadingFault::Body(at) => *at,
         }
+    }
+}
+
+impl fmt::Display for ReadingFault {
+    ghost output = { λ f. Some (told (number_of f) (place_of f)) };
+
+    fn fmt<W: fmt::Write>(&self, f: &mut fmt::Formatter<W>) -> fmt::Result {
+        let number = self.number();
+        let place = self.place();
+        write!(f, "no {number} at {place}")
     }
 }

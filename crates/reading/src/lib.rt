@@ -7,12 +7,14 @@ ghost use Rattle.reading.specs.Records.{Reads, Refused};
 
 pub mod fault;
 pub mod record;
+pub mod records;
 pub mod writing;
 
 use fault::ReadingFault;
 use record::Record;
 
 // The record at an offset of the input, or none at the input's end.
+#[tactic(auto, using(crate::proofs::Covering::reading_laws))]
 pub fn read(input: &[u8], at: usize) -> Result<Option<Record<'_>>, ReadingFault>
     ensures answer { MatchResult result (λ o. MatchOption o (at ≡ length input.now) (λ x. Reads input.now at x)) (λ f. Refused input.now at f) }
     ensures laws { ReadingLaws }
@@ -24,31 +26,24 @@ pub fn read(input: &[u8], at: usize) -> Result<Option<Record<'_>>, ReadingFault>
 fn record_at(input: &[u8], at: usize) -> Result<Option<Record<'_>>, ReadingFault>
     ensures { MatchResult result (λ o. MatchOption o (at ≡ length input.now) (λ x. Reads input.now at x)) (λ f. Refused input.now at f) }
 {
-    if at == input.len() {
-        return Ok(None);
-    }
-    if at > input.len() || input.len() - at < 4 {
+    let Some(rest) = input.get(at..) else {
         return Err(ReadingFault::Header(at));
-    }
-    if input[at] != 0x46 || input[at + 1] != 0x52 {
-        return Err(ReadingFault::Mark(at));
-    }
-    let issuer = input[at + 2];
+    };
+    let (issuer, length, tail) = match rest {
+        [] => return Ok(None),
+        [0x46, 0x52, issuer, length, tail @ ..] => (*issuer, *length, tail),
+        [_, _, _, _, ..] => return Err(ReadingFault::Mark(at)),
+        _ => return Err(ReadingFault::Header(at)),
+    };
     if issuer > 63 {
         return Err(ReadingFault::Issuer(at));
     }
-    let length = input[at + 3];
     if length < 1 || length > 64 {
         return Err(ReadingFault::Length(at));
     }
-    let start = at + 4;
-    if input.len() - start < length as usize {
+    let Some(body) = tail.get(..length as usize) else {
         return Err(ReadingFault::Body(at));
-    }
-    let next = start + length as usize;
-    Ok(Some(Record {
-        issuer,
-        body: &input[start..next],
-        next,
-    }))
+    };
+    let next = at + 4 + body.len();
+    Ok(Some(Record { issuer, body, next }))
 }

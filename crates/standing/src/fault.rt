@@ -70,7 +70,7 @@ impl StandingFault {
         }
     }
 
-    // The offset that a fault of reading or wording has; 0 for the others.
+    // The offset that a fault of reading or wording has; 0 for the others, which `layer` tells apart already.
     pub fn place(&self) -> usize
         ensures { result ≡ place_of self.now }
     {

@@ -1,33 +1,42 @@
-use Rattle.std.proofs.Common.{◌-◌, take, drop, vec_items, subst, arith}
+-- Each step of the loop is given the next part of the text.
+use Rattle.std.proofs.Common.{◌+◌, eqb, length, vec_items, rules, subst, sym, ◌∙◌, tests}
+use Rattle.std.proofs.lemmas.Iterator.Consumers.{YieldsList-from_enumerate, YieldsList-turn, YieldsList-end}
+use Rattle.std.proofs.lemmas.Iterator.Splits.{YieldsList-from_slice_split}
+use Rattle.std.proofs.lemmas.List.{length_push}
+use Rattle.std.proofs.lemmas.List.FromFn.{length-enumerate_from}
 use Rattle.notation.specs.Adding.{Taken, NotTaken}
-use Rattle.notation.proofs.ComposeLaws.{start, next, stop, finish}
-use Rattle.notation.proofs.Splitting.{first_line}
-use Rattle.std.proofs.lemmas.Bool.Decides.{when_true, when_false}
+use Rattle.notation.specs.Results.{Unstated}
+use Rattle.notation.proofs.ComposeLaws.{Going, part_at, next, stop, finish}
+use Rattle.notation.proofs.Splitting.{parts}
 use Rattle.notation.proofs.composing.compose.Goals as goal
 
-pub loop-at-init : goal.loop-at-init
-loop-at-init c = start c.args.bodies c.args.text.now (vec_items c.new-out.result) c.new-out.ensures.items
-
-pub returns-then-not-taken : goal.returns-then-not-taken
-returns-then-not-taken c =
+pub loop-before-preserved : goal.loop-before-preserved
+loop-before-preserved c =
     let text = c.args.text.now in
-    let at = c.loop-at.at in
-    let end = c.line_end-end.result in
-    let e = c.line_end-end.ensures in
-    stop c.args.bodies text at c.loop-at.number (vec_items c.loop-at.out) c.loop-at.invariant (take (end - at) (drop at text)) end
-    (first_line text at end e.low e.high e.none e.feed c.loop-at-test.true) e.low
-    (subst (NotTaken c.args.bodies) c.statement.ensures (when_false _ _ c.if-not-taken.true c.in_ok-taken.ensures))
-
-pub loop-at-preserved : goal.loop-at-preserved
-loop-at-preserved c =
-    let text = c.args.text.now in
-    let at = c.loop-at.at in
-    let end = c.line_end-end.result in
-    let e = c.line_end-end.ensures in
+    let n = length c.loop-before.yielded in
+    let was = vec_items c.loop-before.out in
     let out = vec_items c.take_line.new.out in
-    next c.args.bodies text at c.loop-at.number (vec_items c.loop-at.out) c.loop-at.invariant (take (end - at) (drop at text)) end
-    (first_line text at end e.low e.high e.none e.feed c.loop-at-test.true) e.low out
-    (subst (λ l. Taken c.args.bodies l (vec_items c.loop-at.out) out) c.statement.ensures (when_true _ _ c.if-not-taken.false c.in_ok-taken.ensures))
+    let all = YieldsList-from_enumerate (YieldsList-from_slice_split _ (λ b. eqb b 10) text (cc) (cc) (cc) (λ x b q k. search (rules, tests))) (cc) in
+    let t = YieldsList-turn all c.loop-before.yielded _ c.loop-before.yielded_by _ _ (c.in-Some.before, c.in-Some.line) c.in-Some.is c.next.ensures.steps in
+    let p = part_at (parts text) n c.in-Some.before c.in-Some.line.now t in
+    let taken = subst (λ l. Taken c.args.bodies l was out) c.statement.ensures c.in-Ok.ensures in
+    subst (λ k. Going c.args.bodies (parts text) k out) (sym (length_push c.loop-before.yielded (c.in-Some.before, c.in-Some.line)))
+    (next c.args.bodies text n was c.loop-before.invariant c.in-Some.line.now p.0 p.1.1 out taken)
+
+pub returns-in-Err-Unstated : goal.returns-in-Err-Unstated
+returns-in-Err-Unstated c =
+    let text = c.args.text.now in
+    let n = length c.loop-before.yielded in
+    let was = vec_items c.loop-before.out in
+    let all = YieldsList-from_enumerate (YieldsList-from_slice_split _ (λ b. eqb b 10) text (cc) (cc) (cc) (λ x b q k. search (rules, tests))) (cc) in
+    let t = YieldsList-turn all c.loop-before.yielded _ c.loop-before.yielded_by _ _ (c.in-Some.before, c.in-Some.line) c.in-Some.is c.next.ensures.steps in
+    let p = part_at (parts text) n c.in-Some.before c.in-Some.line.now t in
+    let not_taken = subst (NotTaken c.args.bodies) c.statement.ensures (c.in-Err-Unstated.ensures c.in-Err-Unstated.field-0-is) in
+    subst (λ k. Unstated c.args.bodies text (k + 1)) (sym p.1.0) (stop c.args.bodies text n was c.loop-before.invariant c.in-Some.line.now p.0 p.1.1 not_taken)
 
 pub returns : goal.returns
-returns c = finish c.args.bodies c.args.text.now c.loop-at.at c.loop-at.number (vec_items c.loop-at.out) c.loop-at.invariant (omega arith)
+returns c =
+    let text = c.args.text.now in
+    let all = YieldsList-from_enumerate (YieldsList-from_slice_split _ (λ b. eqb b 10) text (cc) (cc) (cc) (λ x b q k. search (rules, tests))) (cc) in
+    let t = YieldsList-end all c.loop-before.yielded _ c.loop-before.yielded_by _ _ c.in-None.is c.next.ensures.steps in
+    finish c.args.bodies text (length c.loop-before.yielded) (vec_items c.loop-before.out) c.loop-before.invariant (t.1 ∙ length-enumerate_from 0 (parts text))

@@ -1,9 +1,7 @@
-use Rattle.std.proofs.Common.{◌-◌, length, vec_items}
+use Rattle.std.proofs.Common.{length, vec_items}
 use Rattle.notation.proofs.ComposeLaws.{Going}
+use Rattle.notation.proofs.Splitting.{parts}
 use Rattle.notation.proofs.composing.compose.Given as goal
 
-abbrev pub invariant-loop-at : goal.invariant-loop-at
-invariant-loop-at l = Going l.bodies l.text l.at l.number (vec_items l.out)
-
-abbrev pub decreases-loop-at : goal.decreases-loop-at
-decreases-loop-at l = length l.text - l.at
+abbrev pub invariant-loop-before : goal.invariant-loop-before
+invariant-loop-before l = Going l.bodies (parts l.text) (length l.yielded) (vec_items l.out)

@@ -1,45 +1,40 @@
-use Rattle.std.proofs.Common.{◌≡◌, length, vec_items, sym, refl, ap, ◌∙◌, subst, inl, inr, arith}
-use Rattle.std.proofs.lemmas.Bool.Decides.{not_from_Decides}
+use Rattle.std.proofs.Common.{ℕ, List, length, vec_items, refl, sym, ap, ◌∙◌, subst, arith}
+use Rattle.std.proofs.lemmas.Bool.{both_ways}
+use Rattle.std.proofs.lemmas.Option.{MatchOption-at_some}
+use Rattle.std.proofs.lemmas.Result.{err_from_is_err_and}
 use Rattle.notation.specs.Shown.{Passes}
-use Rattle.std.proofs.lemmas.Option.{MatchOption-at_none, MatchOption-at_some}
-use Rattle.reading.specs.Writing.{Unwritable}
-use Rattle.reading.specs.declared.writing.WriteFault.TheVariants.{Length}
-use Rattle.notation.proofs.Showing.{same_body}
-use Rattle.notation.proofs.Stating.{shows_body}
+use Rattle.notation.proofs.Stating.{same_as_shown, shows_body, unfit_body}
 use Rattle.notation.proofs.line.add_line.Goals as goal
 
-pub returns-in_default-2 : goal.returns-in_default-2
-returns-in_default-2 c = (
-  λ f s p h.
-      let h' = c.in-Some.ensures in
-      let k = shows_body c.args.line.now c.in-Some.issuer c.in-Some.start h'.0 h'.1 f s h in
-      MatchOption-at_none _ _ c.in_default-2.is c.in_ok-body.ensures f.body s.bytes k.1,
-  refl,
-)
+pub returns-in_err-body : goal.returns-in_err-body
+returns-in_err-body c =
+    let p = err_from_is_err_and c.from_residual-in_err-body.result c.from_residual-in_err-body.ensures.1 in
+    let begins = MatchOption-at_some _ _ _ c.in_ok-issuer.ensures.ok_part c.issuer_of.ensures in
+    rw (p.1, p.2) (
+      λ u f s q e. c.in_err-body.ensures u f.body s.bytes (shows_body c.args.line.now c.in_ok-issuer.issuer c.in_ok-issuer.text.now begins f s e),
+      refl {A = List ℕ},
+    )
 
 pub returns-then-not-passes : goal.returns-then-not-passes
 returns-then-not-passes c = (
-  λ f s p h.
-      let h' = c.in-Some.ensures in
-      let k = shows_body c.args.line.now c.in-Some.issuer c.in-Some.start h'.0 h'.1 f s h in
-      let b = MatchOption-at_some _ _ c.in-Some-2.body c.in-Some-2.is c.in_ok-body.ensures in
-      let same = same_body f.body (vec_items c.in-Some-2.body) (sym k.1 ∙ b.1) ∙ sym c.as_slice-bytes.ensures.value in
-      not_from_Decides c.passes.result c.passes.ensures c.if-not-passes.true (subst (Passes c.args.bodies) same p),
+  λ u f s q e.
+      let begins = MatchOption-at_some _ _ _ c.in_ok-issuer.ensures.ok_part c.issuer_of.ensures in
+      let same = same_as_shown c.args.line.now c.in_ok-issuer.issuer c.in_ok-issuer.text.now (vec_items c.in_ok-body.body) begins c.in_ok-body.ensures.1 f s e in
+      both_ways c.passes.result c.if-not-passes.true (c.passes.ensures.1 (subst (Passes c.args.bodies) (same ∙ sym c.deref.ensures.value) q)),
   refl,
 )
 
-pub returns : goal.returns
-returns c =
-    let w = c.in-Err.ensures.written in
-    let why : Unwritable c.in-Some.issuer c.as_slice-bytes.result.now Length = subst (Unwritable c.in-Some.issuer c.as_slice-bytes.result.now) c.in-Length.is w.0 in (
-      λ f s p h.
-          let h' = c.in-Some.ensures in
-          let k = shows_body c.args.line.now c.in-Some.issuer c.in-Some.start h'.0 h'.1 f s h in
-          let b = MatchOption-at_some _ _ c.in-Some-2.body c.in-Some-2.is c.in_ok-body.ensures in
-          let same : f.body ≡ vec_items c.in-Some-2.body = same_body f.body (vec_items c.in-Some-2.body) (sym k.1 ∙ b.1) in
-          let long = ap length (same ∙ sym c.as_slice-bytes.ensures.value) in
+pub returns-in_err-write : goal.returns-in_err-write
+returns-in_err-write c =
+    let p = err_from_is_err_and c.from_residual-in_err-write.result c.from_residual-in_err-write.ensures.1 in
+    let begins = MatchOption-at_some _ _ _ c.in_ok-issuer.ensures.ok_part c.issuer_of.ensures in
+    let why = c.in_err-write.ensures.written in
+    rw (p.1, p.2) (
+      λ u f s q e.
+          let same = same_as_shown c.args.line.now c.in_ok-issuer.issuer c.in_ok-issuer.text.now (vec_items c.in_ok-body.body) begins c.in_ok-body.ensures.1 f s e in
+          let long = ap length (same ∙ sym c.deref-2.ensures.value) in
           let some = s.sound.some in
           let short = s.sound.short in
-          elim why.1 [ inl z ↦ omega arith | inr z ↦ omega arith ],
-      w.1,
+          unfit_body c.in_ok-issuer.issuer c.deref-2.result.now c.in_err-write.field-0.0 begins.0 why.0 u (omega arith) (omega arith),
+      why.1,
     )

@@ -1,47 +1,63 @@
-use Rattle.std.proofs.Common.{◌≡◌, ◌+◌, ◌*◌, ◌/◌, ◌%◌, ap, ◌∙◌, arith}
+use Rattle.std.proofs.Common.{◌≡◌, ◌+◌, ◌-◌, ◌*◌, ◌/◌, ◌%◌, ◌≤◌, length, get_or, take, drop, ap, ◌∙◌, sym, arith}
+use Rattle.std.proofs.lemmas.Grind.{common_steps}
+use Rattle.std.proofs.lemmas.List.{take_rest, drop-drop}
 use Rattle.notation.proofs.Heads.{unheaded, one_heads, two_heads}
 use Rattle.notation.proofs.line.issuer_of.Goals as goal
 
-pub returns-then-line-lt3 : goal.returns-then-line-lt3
-returns-then-line-lt3 c = unheaded c.args.line.now (λ n h. let w = h.within in omega arith) (λ n h. let w = h.within in omega arith)
+pub returns-in_err-first : goal.returns-in_err-first
+returns-in_err-first c =
+    let none = c.in_err-first.ensures in
+    rw c.from_residual.ensures (unheaded c.args.line.now (λ n h. none n h.small h.first) (λ n h. let f = h.fits in none (n / 10) (omega arith) h.first))
 
-pub returns-in_default : goal.returns-in_default
-returns-in_default c =
-    unheaded c.args.line.now (λ n h. c.in_default.ensures n h.small h.first)
-    (λ n h. let f = h.fits in c.in_default.ensures (n / 10) (omega arith) h.first)
+pub returns-in-32 : goal.returns-in-32
+returns-in-32 c =
+    let line = c.args.line.now in
+    let n = c.in_ok-first.first in
+    let d = c.in_ok-first.ensures in
+    let a : get_or line 0 0 ≡ 117 = grind (arith, common_steps) in
+    let e : get_or line 2 0 ≡ 32 = grind (arith, common_steps) in
+    let k : 3 ≤ length line = grind (arith, common_steps) in
+    (omega arith, simp take_rest (simp drop-drop (one_heads line n (record { small = d.0; within = k; letter = a; first = d.1; space = e }))))
 
-pub returns-then-line-eq32 : goal.returns-then-line-eq32
-returns-then-line-eq32 c =
-    let d = c.in-Some.ensures in
-    (omega arith, one_heads c.args.line.now c.in-Some.first (record { small = d.0; within = omega arith; letter = c.if-line-ne117.false; first = d.1; space = c.if-line-eq32.true }))
+pub returns-in_err-issuer-in-32-2 : goal.returns-in_err-issuer-in-32-2
+returns-in_err-issuer-in-32-2 c =
+    let line = c.args.line.now in
+    let none = c.in_err-issuer-in-32-2.ensures in
+    let other : get_or line 2 0 ≡ 32 → ⊥ = grind (arith, common_steps) in
+    rw c.from_residual-in_err-issuer-in-32-2.ensures (unheaded line (λ n h. other h.space) (λ n h. none (n % 10) (omega arith) (let s = h.second in grind (arith, common_steps))))
 
-pub returns-then-line-lt4 : goal.returns-then-line-lt4
-returns-then-line-lt4 c = unheaded c.args.line.now (λ n h. c.if-line-eq32.false h.space) (λ n h. let w = h.within in omega arith)
-
-pub returns-in_default-digit : goal.returns-in_default-digit
-returns-in_default-digit c =
-    unheaded c.args.line.now (λ n h. c.if-line-eq32.false h.space) (λ n h. c.in_default-digit.ensures (n % 10) (omega arith) h.second)
-
-pub returns-then-line-ne32 : goal.returns-then-line-ne32
-returns-then-line-ne32 c = unheaded c.args.line.now (λ n h. c.if-line-eq32.false h.space) (λ n h. c.if-line-ne32.true h.space)
+pub returns-in_default-rest : goal.returns-in_default-rest
+returns-in_default-rest c =
+    let line = c.args.line.now in
+    unheaded line (λ n h. let w = h.within in let s = h.space in grind (arith, common_steps)) (λ n h. let w = h.within in let s = h.space in let e = h.second in grind (arith, common_steps))
 
 pub returns-then-issuer-lt10 : goal.returns-then-issuer-lt10
 returns-then-issuer-lt10 c =
-    unheaded c.args.line.now (λ n h. c.if-line-eq32.false h.space)
+    let line = c.args.line.now in
+    let a = c.in_ok-first.ensures in
+    let b = c.in_ok-issuer-in-32-2.ensures in
+    let other : get_or line 2 0 ≡ 32 → ⊥ = grind (arith, common_steps) in
+    let same : get_or (take (length line - 2) (drop 2 line)) 0 0 ≡ get_or line 2 0 = grind (arith, common_steps) in
+    unheaded line (λ n h. other h.space)
     (λ n h.
-    let a = c.in-Some.ensures in
-    let b = c.in-Some-digit.ensures in
     let f = h.first in
     let s = h.second in
     let l = h.large in
     let m = h.fits in
     omega arith)
 
-pub returns : goal.returns
-returns c =
-    let a = c.in-Some.ensures in
-    let b = c.in-Some-digit.ensures in
-    let n = c.in-Some.first * 10 + c.in-Some-digit.second in
-    let x : c.in-Some.first ≡ n / 10 = omega arith in
-    let y : c.in-Some-digit.second ≡ n % 10 = omega arith in
-    (omega arith, two_heads c.args.line.now n (record { large = omega arith; fits = omega arith; within = omega arith; letter = c.if-line-ne117.false; first = a.1 ∙ ap (λ d. 48 + d) x; second = b.1 ∙ ap (λ d. 48 + d) y; space = c.if-line-ne32.false }))
+pub returns-else-issuer-gt63 : goal.returns-else-issuer-gt63
+returns-else-issuer-gt63 c =
+    let line = c.args.line.now in
+    let first = c.in_ok-first.first in
+    let second = c.in_ok-issuer-in-32-2.field-0 in
+    let a = c.in_ok-first.ensures in
+    let b = c.in_ok-issuer-in-32-2.ensures in
+    let n = first * 10 + second in
+    let x : first ≡ n / 10 = omega arith in
+    let y : second ≡ n % 10 = omega arith in
+    let letter : get_or line 0 0 ≡ 117 = grind (arith, common_steps) in
+    let same : get_or (take (length line - 2) (drop 2 line)) 0 0 ≡ get_or line 2 0 = grind (arith, common_steps) in
+    let space : get_or line 3 0 ≡ 32 = grind (arith, common_steps) in
+    let within : 4 ≤ length line = grind (arith, common_steps) in
+    (omega arith, simp take_rest (simp drop-drop (two_heads line n (record { large = omega arith; fits = omega arith; within = within; letter = letter; first = a.1 ∙ ap (λ d. 48 + d) x; second = sym same ∙ b.1 ∙ ap (λ d. 48 + d) y; space = space }))))
