@@ -18,6 +18,10 @@ use Rattle.model.specs.declared.cell.Orientation.{Orientation}
 use Rattle.model.specs.declared.cell.Cell.{Cell}
 use Rattle.bitmap.specs.declared.row.Row.{Row}
 use Rattle.bitmap.specs.declared.pair.Pair.{Pair}
+use Rattle.bitmap.specs.declared.item.Item.{Item}
+use Rattle.model.specs.Privileges.{bit as bit_of}
+use Rattle.model.specs.declared.privilege.Privilege.{Privilege}
+use Rattle.model.proofs.Numbering.{bit_below}
 use Rattle.bitmap.specs.Layout.{ValidRow, cell_at, code_at, option_at, decoded, decode, valid_by, valid_at, CellSet}
 use Rattle.bitmap.specs.Items.{item_in_use, is_item_of, pair_of, option_in, state_in, Kept, ItemSet}
 use Rattle.bitmap.specs.Tables.{empty_row, row_at, items_of, row_in_use, row_is_of, row_is_for, row_option, row_state, EachValid, EachInRange, OnePerPair, Bit}
@@ -55,45 +59,61 @@ rows_kept rows ranged single = record {
   allowed = items_allowed rows;
 }
 
--- a row that is given to a pair has the cells of before
-pub given_cells : {r n w : Row} {k g e : ℕ} {c : Cell FiveState} → w ≡ record n { granter = g; grantee = e } → CellSet r n k c → CellSet r w k c
-given_cells {r} {n} {w} {k} {g} {e} {c} is set = subst (λ (x : Row). CellSet r x k c) (sym is) (record { here = set.here; others = set.others })
+-- row i is set to an item of the pair p, whose cell k alone differs, and is c
+pub record RowSet (rows : List Row) (i : ℕ) (x : Item) (p : Pair) (k : ℕ) (c : Cell FiveState) : Type 0 where
+  pub length : length rows ≡ 16
+  pub inside : i < 16
+  pub low : k < 8
+  pub granter : x.row.granter ≡ p.granter
+  pub grantee : x.row.grantee ≡ p.grantee
+  pub cells : CellSet (row_at rows i) x.row k c
 
--- row i is set
-module _ (rows : List Row) (i : ℕ) (w : Row) (li : i < length rows) where
-  row_same : row_at (set rows i w) i ≡ w
-  row_same = get_or-set_same rows i w empty_row li
+-- the row that an item is made of, with a cell set, and given to the pair
+pub set_as : {r n : Row} (rows : List Row) (i : ℕ) (x : Item) (p : Pair) (q : Privilege) (c : Cell FiveState) → length rows ≡ 16 → i < 16 → r ≡ row_at rows i → CellSet r n (bit_of q) c → x.row ≡ record n { granter = p.granter; grantee = p.grantee } → RowSet rows i x p (bit_of q) c
+set_as {r} {n} rows i x p q c sixteen inside from set is = record {
+  length = sixteen;
+  inside = inside;
+  low = bit_below q;
+  granter = ap (λ (w : Row). w.granter) is;
+  grantee = ap (λ (w : Row). w.grantee) is;
+  cells =
+      subst (λ (w : Row). CellSet w x.row (bit_of q) c) from
+      (subst (λ (w : Row). CellSet r w (bit_of q) c) (sym is) (record { here = set.here; others = set.others }));
+}
 
-  row_other : (a : ℕ) → (a ≡ i → ⊥) → row_at (set rows i w) a ≡ row_at rows a
-  row_other a ne = get_or-set_other rows i a w empty_row ne
+module _ {rows : List Row} {i : ℕ} {x : Item} {p : Pair} {k : ℕ} {c : Cell FiveState} (b : RowSet rows i x p k c) where
+  row_same : row_at (set rows i x.row) i ≡ x.row
+  row_same = get_or-set_same rows i x.row empty_row (omega (arith, b.length, b.inside))
+
+  row_other : (a : ℕ) → (a ≡ i → ⊥) → row_at (set rows i x.row) a ≡ row_at rows a
+  row_other a ne = get_or-set_other rows i a x.row empty_row ne
 
   -- what every row has, and the new one has, every row has
-  each_kept : (P : ℕ → Row → Type 0) → ((a : ℕ) → P a (row_at rows a)) → ((a : ℕ) → P a w) → (a : ℕ) → P a (row_at (set rows i w) a)
+  each_kept : (P : ℕ → Row → Type 0) → ((a : ℕ) → P a (row_at rows a)) → ((a : ℕ) → P a x.row) → (a : ℕ) → P a (row_at (set rows i x.row) a)
   each_kept P all new a =
       ⊎_elim
-      (λ e. subst (P a) (sym (ap (row_at (set rows i w)) e ∙ row_same)) (new a))
+      (λ e. subst (P a) (sym (ap (row_at (set rows i x.row)) e ∙ row_same)) (new a))
       (λ ne. subst (P a) (sym (row_other a ne)) (all a))
       (cases_eq a i)
 
-  module _ (p : Pair) (k : ℕ) (c : Cell FiveState) (lk : k < 8) (i16 : i < 16) (gives : w.granter ≡ p.granter) (gets : w.grantee ≡ p.grantee) (valid : ValidRow w) (cells : CellSet (row_at rows i) w k c) where
-    pub row_item_set : ItemSet (items_of rows) (items_of (set rows i w)) i (pair_of p.granter p.grantee) k c
-    row_item_set = record {
-      pair_here = ap (λ (r : Row). pair_of r.granter r.grantee) row_same ∙ ap (λ (x : ℕ). pair_of x w.grantee) gives ∙ ap (λ (x : ℕ). pair_of p.granter x) gets;
-      cell_here = ap (λ (r : Row). cell_at r k) row_same ∙ cells.here;
-      cells_kept = λ q lq ne. ap (λ (r : Row). cell_at r q) row_same ∙ cells.others q lq ne;
-      pairs_kept = λ a la ne. ap (λ (r : Row). pair_of r.granter r.grantee) (row_other a ne);
-      items_kept = λ a q la lq ne. ap (λ (r : Row). cell_at r q) (row_other a ne);
-    }
+  pub row_item_set : ItemSet (items_of rows) (items_of (set rows i x.row)) i (pair_of p.granter p.grantee) k c
+  row_item_set = record {
+    pair_here = ap (λ (r : Row). pair_of r.granter r.grantee) row_same ∙ ap (λ (g : ℕ). pair_of g x.row.grantee) b.granter ∙ ap (λ (e : ℕ). pair_of p.granter e) b.grantee;
+    cell_here = ap (λ (r : Row). cell_at r k) row_same ∙ b.cells.here;
+    cells_kept = λ q lq ne. ap (λ (r : Row). cell_at r q) row_same ∙ b.cells.others q lq ne;
+    pairs_kept = λ a la ne. ap (λ (r : Row). pair_of r.granter r.grantee) (row_other a ne);
+    items_kept = λ a q la lq ne. ap (λ (r : Row). cell_at r q) (row_other a ne);
+  }
 
-    pub set_each : EachValid rows → EachValid (set rows i w)
-    set_each all a q b = each_kept (λ a r. Bit a q → valid_at r q ≡ true) (λ a. all a q) (λ a b. valid q b.place) a b
+  pub set_each : EachValid rows → EachValid (set rows i x.row)
+  set_each all a q at = each_kept (λ a r. Bit a q → valid_at r q ≡ true) (λ a. all a q) (λ a at. x.valid q at.place) a at
 
-    pub set_ranged : EachInRange rows → EachInRange (set rows i w)
-    set_ranged all = each_kept (λ a r. a < 16 → (r.granter < 128) × (r.grantee < 128)) all (λ a _. (subst (λ (x : ℕ). x < 128) (sym gives) p.gives, subst (λ (x : ℕ). x < 128) (sym gets) p.gets))
+  pub set_ranged : EachInRange rows → EachInRange (set rows i x.row)
+  set_ranged all = each_kept (λ a r. a < 16 → (r.granter < 128) × (r.grantee < 128)) all (λ a _. (omega (arith, b.granter, p.gives), omega (arith, b.grantee, p.gets)))
 
-    pub set_single : EachInRange rows → OnePerPair rows → (item_in_use (joining five) (items_of rows) i ≡ true → (items_of rows).pair i ≡ pair_of p.granter p.grantee) → ((a : ℕ) → a < 16 → item_in_use (joining five) (items_of rows) a ≡ true → (items_of rows).pair a ≡ pair_of p.granter p.grantee → a ≡ i) → OnePerPair (set rows i w)
-    set_single ranged single was only a b both =
-        (set_kept five five_lawful (items_of rows) (items_of (set rows i w)) i (pair_of p.granter p.grantee) k c i16 lk (pair_below p.granter p.grantee p.gives p.gets) (rows_kept rows ranged single) (items_allowed (set rows i w)) was only row_item_set).single a b both.first both.second both.first_used both.second_used both.same
+  pub set_single : EachInRange rows → OnePerPair rows → (item_in_use (joining five) (items_of rows) i ≡ true → (items_of rows).pair i ≡ pair_of p.granter p.grantee) → ((a : ℕ) → a < 16 → item_in_use (joining five) (items_of rows) a ≡ true → (items_of rows).pair a ≡ pair_of p.granter p.grantee → a ≡ i) → OnePerPair (set rows i x.row)
+  set_single ranged single was only a d both =
+      (set_kept five five_lawful (items_of rows) (items_of (set rows i x.row)) i (pair_of p.granter p.grantee) k c b.inside b.low (pair_below p.granter p.grantee p.gives p.gets) (rows_kept rows ranged single) (items_allowed (set rows i x.row)) was only row_item_set).single a d both.first both.second both.first_used both.second_used both.same
 
 -- a pair by its two numbers, and by the one number of both
 pair_tests : (g e h f : ℕ) → e < 128 → f < 128 → (eqb g h && eqb e f) ≡ eqb (pair_of g e) (pair_of h f)

@@ -165,22 +165,43 @@ impl Row {
     }
 }
 
+impl TryFrom<Row> for Item {
+    ghost use Rattle.bitmap.specs.Tables.{ItemOf};
+
+    type Error = Row;
+
+    ghost try_from_gives = { ItemOf };
+
+    // The item that a row is, if all its bits are valid; else the row is given back.
+    fn try_from(row: Row) -> Result<Item, Row> {
+        if row.is_valid() {
+            Ok(Item { row })
+        } else {
+            Err(row)
+        }
+    }
+}
+
+impl From<Item> for Row {
+    ghost from_gives = { λ item row. row ≡ item.row };
+
+    fn from(item: Item) -> Row {
+        item.row
+    }
+}
+
 impl Item {
     // The item that a row is, if all its bits are valid.
     pub fn from_row(row: Row) -> Option<Item>
         ensures { MatchOption result (ValidRow row → ⊥) (λ item. item.row ≡ row) }
     {
-        if row.is_valid() {
-            Some(Item { row })
-        } else {
-            None
-        }
+        Item::try_from(row).ok()
     }
 
     pub fn to_row(self) -> Row
         ensures { result ≡ self.row }
     {
-        self.row
+        self.into()
     }
 
     // The cell of a privilege.

@@ -140,8 +140,7 @@ impl ObjectItems {
         }
     }
 
-    // Gives item i to the pair, with one cell changed. Its row alone is lent: the fifteen others
-    // stay.
+    // Gives item i to the pair, with one cell changed.
     fn put(&mut self, i: usize, pair: Pair, privilege: Privilege, cell: Cell<FiveState>)
         requires item { i < 16 }
         requires allowed { is_allowed five cell ≡ true }
@@ -150,8 +149,7 @@ impl ObjectItems {
         ensures { ItemSet (items_of self.old.rows) (items_of self.new.rows) i (pair_of pair.granter pair.grantee) (bit_of privilege) cell }
     {
         let item = self.item(i).with_cell(privilege, cell).given_to(pair);
-        let row = &mut self.rows[i];
-        row.put_back(item);
+        put_back(&mut self.rows, i, item);
     }
 
     // Writes one cell of a pair, if it is unassign, the pair is in use or an item is free.
@@ -172,6 +170,15 @@ impl ObjectItems {
         self.put(i, pair, privilege, cell);
         true
     }
+}
+
+// Lends row i alone, which becomes the item: the others stay.
+fn put_back(rows: &mut [Row], i: usize, item: Item)
+    requires { i < length rows.old }
+    ensures { rows.new ≡ slice_set rows.old i item.row }
+{
+    let row = &mut rows[i];
+    row.put_back(item);
 }
 
 // The next state, joined with those before it.
