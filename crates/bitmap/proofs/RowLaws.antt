@@ -1,9 +1,10 @@
 -- Sixteen rows as items, and one of them set.
-use Rattle.std.proofs.Common.{◌≡◌, ℕ, ◌+◌, ◌%◌, ◌^◌, ◌<◌, Bool, true, false, cond, not, ◌&&◌, eqb, ltb, List, Option, Some, None, is_some, fold, length, set, sym, refl, ap, ◌∙◌, subst, ⊎_elim, arith, get_or-set_other, get_or-set_same, rules}
+use Rattle.std.proofs.Common.{◌≡◌, ℕ, ◌+◌, ◌%◌, ◌^◌, ◌<◌, Bool, true, false, cond, not, ◌&&◌, eqb, ltb, List, Option, Some, None, is_some, fold, length, replicate, set, sym, refl, ap, ◌∙◌, subst, ⊎_elim, arith, get_or-set_other, get_or-set_same, rules}
 use Rattle.std.specs.List.{list_any, count_by, position}
 use native.Mathlib.Nat.{zero-div}
 use Rattle.std.proofs.lemmas.Bool.{cases_eq, both_ways, cond_both, not-true, not-false}
 use Rattle.std.proofs.lemmas.Bool.Decides.{nat_tests}
+use Rattle.std.proofs.lemmas.List.{get_or-replicate}
 use Rattle.std.proofs.lemmas.List.Quantifiers.{position-Some}
 use Rattle.bits.specs.Bit.{bit}
 use Rattle.scales.specs.declared.five.FiveState.{FiveState}
@@ -177,7 +178,7 @@ bit_zero : (k : ℕ) → bit 0 k ≡ 0
 bit_zero k = ap (λ (n : ℕ). n % 2) (zero-div (2 ^ k))
 
 zero_valid : (k : ℕ) → valid_by k 0 false ≡ true
-zero_valid k = cond_both (ltb k 8) true _ (λ b. b ≡ true) (λ _. refl) (λ _. cond_both (ltb k 16) true _ (λ b. b ≡ true) (λ _. refl) (λ _. cond_both (ltb k 24) true true (λ b. b ≡ true) (λ _. refl) (λ _. refl)))
+zero_valid k = grind (arith, nat_tests)
 
 empty_valid : (k : ℕ) → valid_at empty_row k ≡ true
 empty_valid k =
@@ -185,12 +186,14 @@ empty_valid k =
     let code : code_at empty_row k ≡ 0 = omega arith in
     ap (λ (n : ℕ). valid_by k n (eqb (bit 0 (k + 16)) 1)) code ∙ ap (λ (n : ℕ). valid_by k 0 (eqb n 1)) (bit_zero (k + 16)) ∙ zero_valid k
 
-module _ (rows : List Row) (all : (i : ℕ) → i < 16 → row_at rows i ≡ empty_row) where
-  pub empty_each : EachValid rows
-  empty_each i k b = ap (λ (r : Row). valid_at r k) (all i b.row) ∙ empty_valid k
+all_empty : (i : ℕ) → i < 16 → row_at (replicate 16 empty_row) i ≡ empty_row
+all_empty i lt = get_or-replicate 16 i empty_row empty_row lt
 
-  pub empty_ranged : EachInRange rows
-  empty_ranged i lt = (subst (λ (r : Row). r.granter < 128) (sym (all i lt)) (omega arith), subst (λ (r : Row). r.grantee < 128) (sym (all i lt)) (omega arith))
+pub empty_each : EachValid (replicate 16 empty_row)
+empty_each i k b = ap (λ (r : Row). valid_at r k) (all_empty i b.row) ∙ empty_valid k
 
-  pub empty_single : OnePerPair rows
-  empty_single a b both = absurd (both_ways (row_in_use (row_at rows a)) (ap row_in_use (all a both.first) ∙ none_used) (use_is rows a ∙ both.first_used))
+pub empty_ranged : EachInRange (replicate 16 empty_row)
+empty_ranged i lt = (subst (λ (r : Row). r.granter < 128) (sym (all_empty i lt)) (omega arith), subst (λ (r : Row). r.grantee < 128) (sym (all_empty i lt)) (omega arith))
+
+pub empty_single : OnePerPair (replicate 16 empty_row)
+empty_single a b both = absurd (both_ways (row_in_use (row_at (replicate 16 empty_row) a)) (ap row_in_use (all_empty a both.first) ∙ none_used) (use_is (replicate 16 empty_row) a ∙ both.first_used))

@@ -4,7 +4,7 @@ ghost use Rattle.bits.specs.Bit.{bit};
 ghost use Rattle.model.specs.Allowed.{Allowed, is_allowed};
 ghost use Rattle.model.specs.Privileges.{bit as bit_of};
 ghost use Rattle.scales.specs.Five.{five};
-ghost use Rattle.bitmap.specs.Layout.{code_at, option_at, combination, is_code, decode, encode_as, cell_at, valid_at, ValidRow, DigitSet, CodeSet, CellSet};
+ghost use Rattle.bitmap.specs.Layout.{code_at, option_at, combination, decode, encode_as, cell_at, valid_at, ValidRow, DigitSet, CodeSet, CellSet};
 
 use crate::item::Item;
 use crate::pair::Pair;
@@ -39,7 +39,7 @@ impl Row {
     {
         let code = self.code(k);
         match k {
-            0..=7 => is_legal(code) && (!self.option(k) || code == 0b10000),
+            0..=7 => combination(code).is_some() && (!self.option(k) || code == 0b10000),
             16..=23 => code % 16 == 0,
             _ => code == 0,
         }
@@ -87,12 +87,6 @@ fn combination(code: u32) -> Option<(FiveState, Orientation)>
         _ => return None,
     };
     Some(pair)
-}
-
-fn is_legal(code: u32) -> bool
-    ensures { result ≡ is_code code }
-{
-    combination(code).is_some()
 }
 
 // The cell of a combination: an option stands only with grant.

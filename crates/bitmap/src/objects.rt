@@ -27,6 +27,20 @@ fn is_assigned(state: FiveState) -> bool
 }
 
 impl Row {
+    fn empty() -> Row
+        ensures { result ≡ empty_row }
+    {
+        Row {
+            granter: 0,
+            grantee: 0,
+            acl: 0,
+            taint: 0,
+            suspend: 0,
+            deny: 0,
+            neut: 0,
+        }
+    }
+
     // Whether any of its cells is not unassign.
     fn is_in_use(&self) -> bool
         ensures { result ≡ row_in_use self.now }
@@ -76,16 +90,9 @@ impl ObjectItems {
     pub(crate) fn empty() -> ObjectItems
         ensures { result.rows ≡ replicate 16 empty_row }
     {
-        let row = Row {
-            granter: 0,
-            grantee: 0,
-            acl: 0,
-            taint: 0,
-            suspend: 0,
-            deny: 0,
-            neut: 0,
-        };
-        ObjectItems { rows: [row; 16] }
+        ObjectItems {
+            rows: [Row::empty(); 16],
+        }
     }
 
     // The item of a pair, if the pair is in use.
