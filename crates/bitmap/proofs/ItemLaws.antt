@@ -1,16 +1,14 @@
 -- What a row's bits are after a cell is set.
-use Rattle.std.proofs.Common.{◌≡◌, ℕ, ◌+◌, ◌*◌, ◌/◌, ◌%◌, ◌<◌, Bool, true, false, cond, not, ◌&&◌, ◌||◌, eqb, ltb, sym, refl, ap, ◌∙◌, ⊎_elim, arith, rules}
-use Rattle.std.proofs.lemmas.Bool.{cases_eq, both_ways, cond-true, cond-false, lt-ltb, le-ltb}
+use Rattle.std.proofs.Common.{◌≡◌, ℕ, ◌+◌, ◌*◌, ◌/◌, ◌%◌, ◌<◌, Bool, true, false, cond, not, ◌&&◌, ◌||◌, eqb, ltb, sym, ap, ◌∙◌, ⊎_elim, arith, rules}
+use Rattle.std.proofs.lemmas.Bool.{cases_eq, cond-true, lt-ltb}
 use Rattle.std.proofs.lemmas.Bool.Decides.{nat_tests}
 use Rattle.std.proofs.lemmas.Nat.{div-add-mod', shr-shr}
 use Rattle.bits.specs.Bit.{bit}
 use Rattle.scales.specs.declared.five.FiveState.{FiveState}
-use Rattle.scales.specs.declared.five.FiveState.TheVariants.{Deny, Suspend, Taint, Grant, Unassign}
 use Rattle.scales.specs.Five.{five}
 use Rattle.model.specs.Allowed.{is_allowed}
 use Rattle.model.specs.declared.cell.Cell.{Cell}
 use Rattle.model.specs.declared.cell.Orientation.{Orientation}
-use Rattle.model.specs.declared.cell.Orientation.TheVariants.{Up, Down, Neutral}
 use Rattle.bitmap.specs.declared.row.Row.{Row}
 use Rattle.bitmap.specs.Layout.{code_at, option_at, is_code, valid_by, valid_at, ValidRow, cell_as, decode, cell_at, encode_as, encode, CodeSet}
 

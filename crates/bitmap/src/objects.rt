@@ -8,7 +8,7 @@ ghost use Rattle.model.specs.States.{join as join_of};
 ghost use Rattle.model.specs.Stores.{assigned};
 ghost use Rattle.scales.specs.declared.five.FiveState.TheVariants.{Unassign};
 ghost use Rattle.scales.specs.Five.{five};
-ghost use Rattle.bitmap.specs.Items.{pair_of, item_in_use, ItemSet, Written};
+ghost use Rattle.bitmap.specs.Items.{pair_of, RoomFor, ItemSet, Written};
 ghost use Rattle.bitmap.specs.Tables.{empty_row, row_at, row_in_use, row_is_of, row_is_for, row_option, row_state, items_of};
 
 use crate::item::Item;
@@ -151,8 +151,7 @@ impl ObjectItems {
     fn put(&mut self, i: usize, pair: Pair, privilege: Privilege, cell: Cell<FiveState>)
         requires item { i < 16 }
         requires allowed { is_allowed five cell ≡ true }
-        requires was { item_in_use (joining five) (items_of self.old.rows) i ≡ true → (items_of self.old.rows).pair i ≡ pair_of pair.granter pair.grantee }
-        requires only { (a : ℕ) → a < 16 → item_in_use (joining five) (items_of self.old.rows) a ≡ true → (items_of self.old.rows).pair a ≡ pair_of pair.granter pair.grantee → a ≡ i }
+        requires room { RoomFor (joining five) (items_of self.old.rows) i (pair_of pair.granter pair.grantee) }
         ensures { ItemSet (items_of self.old.rows) (items_of self.new.rows) i (pair_of pair.granter pair.grantee) (bit_of privilege) cell }
     {
         let item = self.item(i).with_cell(privilege, cell).given_to(pair);

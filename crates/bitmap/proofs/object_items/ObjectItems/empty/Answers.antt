@@ -1,4 +1,4 @@
-use Rattle.std.proofs.Common.{List, replicate, refl, sym, subst}
+use Rattle.std.proofs.Common.{replicate, refl, sym, subst}
 use Rattle.bitmap.specs.declared.row.Row.{Row}
 use Rattle.bitmap.specs.Tables.{EachValid, EachInRange, OnePerPair}
 use Rattle.bitmap.proofs.RowLaws.{empty_each, empty_ranged, empty_single}

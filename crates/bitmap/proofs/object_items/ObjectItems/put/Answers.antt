@@ -17,7 +17,7 @@ invariant_of-self c =
       sixteen = sym (ap length is) ∙ length-set was.rows a.i x.row ∙ was.sixteen;
       valid = subst EachValid is (set_each set was.valid);
       ranged = subst EachInRange is (set_ranged set was.ranged);
-      single = subst OnePerPair is (set_single set was.ranged was.single c.requires.was c.requires.only);
+      single = subst OnePerPair is (set_single set was.ranged was.single c.requires.room);
     }
 
 pub returns : goal.returns

@@ -21,4 +21,4 @@ returns c =
     let there = and_parts (object_in_range a.right.object) (in_range a.grantee) (sym found.in_range) in
     c.strongest.ensures
     ∙ ap (λ (e : ℕ). fold (λ before row. join five (row_state e (bit a.right.privilege) a.orientation row) before) Unassign c.in-Some.items.now.rows) found.grantee
-    ∙ strongest_told a.self.now.objects a.right.object there.0 c.in-Some.items.now.rows found.rows c.in-Some.items.now.sixteen a.grantee a.right.privilege there.1 a.orientation
+    ∙ strongest_told a.self.now.objects a.right.object there.0 c.in-Some.items.now found.rows a.grantee a.right.privilege there.1 a.orientation
