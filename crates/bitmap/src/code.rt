@@ -1,5 +1,5 @@
 // A row's bits read and written, and the item that is made from a row.
-ghost use Rattle.std.specs.Prelude.{◌≡◌, ℕ, ◌+◌, ◌<◌, true, if◌then◌else◌, Decides, MatchOption};
+ghost use Rattle.std.specs.Prelude.{◌≡◌, ◌+◌, ◌<◌, true, if◌then◌else◌, Decides, MatchOption};
 ghost use Rattle.bits.specs.Bit.{bit};
 ghost use Rattle.model.specs.Allowed.{Allowed, is_allowed};
 ghost use Rattle.model.specs.Privileges.{bit as bit_of};
@@ -75,7 +75,7 @@ fn option_bit(k: u8) -> u32
 fn combination(code: u32) -> Option<(FiveState, Orientation)>
     ensures { result ≡ combination code }
 {
-    let pair = match code {
+    Some(match code {
         0b00000 => (FiveState::Unassign, Orientation::Up),
         0b10000 => (FiveState::Grant, Orientation::Up),
         0b01000 => (FiveState::Taint, Orientation::Down),
@@ -85,8 +85,7 @@ fn combination(code: u32) -> Option<(FiveState, Orientation)>
         0b00101 => (FiveState::Suspend, Orientation::Neutral),
         0b00011 => (FiveState::Deny, Orientation::Neutral),
         _ => return None,
-    };
-    Some(pair)
+    })
 }
 
 // The cell of a combination: an option stands only with grant.
@@ -207,7 +206,8 @@ impl Item {
 
     // The item with a privilege's cell changed, if the cell is an allowed one.
     pub fn with(self, privilege: Privilege, cell: &Cell<FiveState>) -> Option<Item>
-        ensures { MatchOption result (Allowed five cell.now → ⊥) (λ item. CellSet self.row item.row (bit_of privilege) cell.now) }
+        ensures { MatchOption result (Allowed five cell.now → ⊥)
+            (λ item. CellSet self.row item.row (bit_of privilege) cell.now) }
     {
         if cell.is_allowed() {
             Some(self.with_cell(privilege, *cell))

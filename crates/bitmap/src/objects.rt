@@ -1,5 +1,5 @@
 // What the items of one object answer, and how one of them is rewritten.
-ghost use Rattle.std.specs.Prelude.{◌≡◌, ℕ, ◌<◌, true, false, ◌&&◌, not, length, replicate, fold, count_by, position, ◌==◌, slice_set};
+ghost use Rattle.std.specs.Prelude.{◌≡◌, ◌<◌, true, not, length, replicate, fold, count_by, position, slice_set};
 ghost use Rattle.std.specs.List.{list_any};
 ghost use Rattle.model.specs.Allowed.{is_allowed};
 ghost use Rattle.model.specs.Joining.{joining};
@@ -48,17 +48,11 @@ impl Row {
         (0..8).any(|k| is_assigned(self.cell(k).state))
     }
 
-    fn has_pair(&self, pair: Pair) -> bool
-        ensures { result ≡ (self.now.granter == pair.granter && self.now.grantee == pair.grantee) }
-    {
-        self.granter == pair.granter && self.grantee == pair.grantee
-    }
-
     // Whether it is in use for a pair.
     fn is_of(&self, pair: Pair) -> bool
         ensures { result ≡ row_is_of pair.granter pair.grantee self.now }
     {
-        self.is_in_use() && self.has_pair(pair)
+        self.is_in_use() && self.granter == pair.granter && self.grantee == pair.grantee
     }
 
     // Whether it is in use for a grantee.
@@ -129,7 +123,9 @@ impl ObjectItems {
         privilege: Privilege,
         orientation: Orientation,
     ) -> FiveState
-        ensures { result ≡ fold (λ before row. join_of five (row_state grantee (bit_of privilege) orientation row) before) Unassign self.now.rows }
+        ensures { result
+            ≡ fold (λ before row. join_of five (row_state grantee (bit_of privilege) orientation row) before)
+            Unassign self.now.rows }
     {
         self.rows.iter().fold(FiveState::Unassign, |before, row| {
             joined(row.state_for(grantee, privilege, orientation), before)
@@ -152,7 +148,8 @@ impl ObjectItems {
         requires item { i < 16 }
         requires allowed { is_allowed five cell ≡ true }
         requires room { RoomFor (joining five) (items_of self.old.rows) i (pair_of pair.granter pair.grantee) }
-        ensures { ItemSet (items_of self.old.rows) (items_of self.new.rows) i (pair_of pair.granter pair.grantee) (bit_of privilege) cell }
+        ensures { ItemSet (items_of self.old.rows) (items_of self.new.rows) i
+            (pair_of pair.granter pair.grantee) (bit_of privilege) cell }
     {
         let item = self.item(i).with_cell(privilege, cell).given_to(pair);
         put_back(&mut self.rows, i, item);
@@ -161,7 +158,8 @@ impl ObjectItems {
     // Writes one cell of a pair, if it is unassign, the pair is in use or an item is free.
     pub(crate) fn write(&mut self, pair: Pair, privilege: Privilege, cell: Cell<FiveState>) -> bool
         requires { is_allowed five cell ≡ true }
-        ensures { Written five (items_of self.old.rows) (items_of self.new.rows) (pair_of pair.granter pair.grantee) (bit_of privilege) cell result }
+        ensures { Written five (items_of self.old.rows) (items_of self.new.rows)
+            (pair_of pair.granter pair.grantee) (bit_of privilege) cell result }
     {
         if let Some(i) = self.position(pair) {
             self.put(i, pair, privilege, cell);
