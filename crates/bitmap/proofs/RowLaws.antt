@@ -1,5 +1,5 @@
 -- Sixteen rows as items, and one of them set.
-use Rattle.std.proofs.Common.{◌≡◌, ℕ, ◌+◌, ◌%◌, ◌^◌, ◌<◌, Bool, true, false, cond, not, ◌&&◌, eqb, List, Option, Some, None, is_some, fold, length, replicate, set, sym, refl, ap, ◌∙◌, subst, ⊎_elim, arith, get_or-set_other, get_or-set_same, rules}
+use Rattle.std.proofs.Common.{◌≡◌, ℕ, ◌+◌, ◌%◌, ◌^◌, ◌<◌, Bool, true, false, cond, not, ◌&&◌, eqb, List, Option, Some, None, is_some, length, replicate, set, sym, refl, ap, ◌∙◌, subst, ⊎_elim, arith, get_or-set_other, get_or-set_same, rules}
 use Rattle.std.specs.List.{list_any, count_by, position}
 use native.Mathlib.Nat.{zero-div}
 use Rattle.std.proofs.lemmas.Bool.{cases_eq, both_ways, cond_both, not-true, not-false}
@@ -10,7 +10,7 @@ use Rattle.bits.specs.Bit.{bit}
 use Rattle.scales.specs.declared.five.FiveState.{FiveState}
 use Rattle.scales.specs.declared.five.FiveState.TheVariants.{Unassign}
 use Rattle.scales.specs.Five.{five}
-use Rattle.model.specs.States.{Lawful, join}
+use Rattle.model.specs.States.{Lawful}
 use Rattle.model.specs.Joining.{joining}
 use Rattle.model.specs.Allowed.{Allowed}
 use Rattle.model.specs.Folds.{count_below, any_below, join_below}
@@ -26,7 +26,7 @@ use Rattle.model.specs.declared.privilege.Privilege.{Privilege}
 use Rattle.model.proofs.Numbering.{bit_below}
 use Rattle.bitmap.specs.Layout.{cell_at, code_at, option_at, decoded, decode, valid_by, valid_at, CellSet}
 use Rattle.bitmap.specs.Items.{item_in_use, is_item_of, pair_of, option_in, state_in, Kept, RoomFor, ItemSet}
-use Rattle.bitmap.specs.Tables.{empty_row, row_at, items_of, row_in_use, row_is_of, row_is_for, row_option, row_state, EachValid, EachInRange, OnePerPair, Bit}
+use Rattle.bitmap.specs.Tables.{empty_row, row_at, items_of, row_in_use, row_is_of, row_is_for, row_option, row_state, rows_strongest, EachValid, EachInRange, OnePerPair, Bit}
 use Rattle.bitmap.proofs.Lists.{position-None, is_some-position, list_any_below, count_by_below, fold_below}
 use Rattle.bitmap.proofs.Held.{Asked, set_kept}
 use Rattle.bitmap.proofs.Writing.{pair_below}
@@ -145,8 +145,8 @@ module _ (x : ObjectItems) where
       list_any_below (row_option e k) x.rows empty_row 16 _ x.sixteen
       (λ i lt. ap (λ (b : Bool). cond b (cell_at (row_at x.rows i) k).option false) (for_is e i lt))
 
-  pub rows_strongest : (e k : ℕ) (t : Orientation) → fold (λ before row. join five (row_state e k t row) before) Unassign x.rows ≡ join_below (joining five) 16 (state_in (joining five) (items_of x.rows) e k t)
-  rows_strongest e k t =
+  pub strongest_of : (e k : ℕ) (t : Orientation) → rows_strongest e k t x.rows ≡ join_below (joining five) 16 (state_in (joining five) (items_of x.rows) e k t)
+  strongest_of e k t =
       fold_below (joining five) (row_state e k t) x.rows empty_row 16 _ x.sixteen
       (λ i lt. ap (λ (b : Bool). cond b (state_towards (joining five) t (cell_at (row_at x.rows i) k)) Unassign) (for_is e i lt))
 

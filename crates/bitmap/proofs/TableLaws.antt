@@ -1,5 +1,5 @@
 -- The table of all objects, and one of them set.
-use Rattle.std.proofs.Common.{◌≡◌, ℕ, zero, suc, ◌<◌, ◌≤◌, Bool, true, ◌&&◌, ltb, List, Option, Some, None, IfSome, MatchOption, is_some, fold, [], ◌∷◌, length, get_or, set, replicate, sym, refl, ap, ◌∙◌, subst, arith}
+use Rattle.std.proofs.Common.{◌≡◌, ℕ, zero, suc, ◌<◌, ◌≤◌, Bool, true, ◌&&◌, ltb, List, Option, Some, None, IfSome, MatchOption, is_some, [], ◌∷◌, length, get_or, set, replicate, sym, refl, ap, ◌∙◌, subst, arith}
 use mathlib.Core.Path.{fun_ext}
 use Rattle.std.specs.List.{list_any, count_by, position, HoldsAt}
 use Rattle.std.proofs.lemmas.Bool.{both_ways, cond_both, and_parts, ltb-true}
@@ -10,7 +10,6 @@ use Rattle.model.specs.Places.{number}
 use Rattle.model.specs.Stores.{no_cells, pairs, in_use, has_option, strongest, AnswersOutside}
 use Rattle.model.specs.Principals.{in_range, object_in_range}
 use Rattle.model.specs.Folds.{count_below, any_below, join_below}
-use Rattle.model.specs.States.{join}
 use Rattle.model.specs.declared.principal.Principal.{Principal}
 use Rattle.model.specs.declared.privilege.Privilege.{Privilege}
 use Rattle.model.specs.declared.cell.Orientation.{Orientation}
@@ -19,14 +18,13 @@ use Rattle.model.proofs.Numbering.{number_in}
 use Rattle.bitmap.specs.declared.row.Row.{Row}
 use Rattle.bitmap.specs.declared.object_items.ObjectItems.{ObjectItems}
 use Rattle.scales.specs.declared.five.FiveState.{FiveState}
-use Rattle.scales.specs.declared.five.FiveState.TheVariants.{Unassign}
 use Rattle.model.specs.Joining.{joining}
 use Rattle.model.specs.declared.cell.Cell.{Cell}
 use Rattle.bitmap.specs.Items.{held, pair_of, numbered, item_in_use, is_item_of, option_in, state_in, Kept, Written}
-use Rattle.bitmap.specs.Tables.{empty_row, row_at, items_of, row_in_use, row_is_of, row_option, row_state}
+use Rattle.bitmap.specs.Tables.{empty_row, row_at, items_of, row_in_use, row_is_of, row_option, rows_strongest}
 use Rattle.bitmap.specs.Objects.{rows_of, items_at, table_cells}
 use Rattle.bitmap.proofs.Held.{held_none}
-use Rattle.bitmap.proofs.RowLaws.{five_lawful, rows_kept, items_allowed, use_is, none_used, rows_count, rows_used, rows_option, rows_strongest}
+use Rattle.bitmap.proofs.RowLaws.{five_lawful, rows_kept, items_allowed, use_is, none_used, rows_count, rows_used, rows_option, strongest_of}
 use Rattle.bitmap.proofs.Telling.{cells_outside, tell_pairs, tell_used, tell_option, tell_strongest}
 
 pub rows_same : (xs : List ObjectItems) (o : ℕ) (x : ObjectItems) → o < length xs → rows_of (set xs o x) o ≡ x.rows
@@ -110,9 +108,9 @@ module _ (xs : List ObjectItems) (o : ℕ) (inside : object_in_range o ≡ true)
         ∙ ap (λ (r : List Row). any_below 16 (option_in (joining five) (items_of r) (number e) (bit p))) is
         ∙ sym (tell_option five five_lawful (items_at xs) o p e below there (items_kept xs o))
 
-    pub strongest_told : (t : Orientation) → fold (λ before row. join five (row_state (number e) (bit p) t row) before) Unassign x.rows ≡ strongest (joining five) (table_cells xs) o p e t
+    pub strongest_told : (t : Orientation) → rows_strongest (number e) (bit p) t x.rows ≡ strongest (joining five) (table_cells xs) o p e t
     strongest_told t =
-        rows_strongest x (number e) (bit p) t
+        strongest_of x (number e) (bit p) t
         ∙ ap (λ (r : List Row). join_below (joining five) 16 (state_in (joining five) (items_of r) (number e) (bit p) t)) is
         ∙ sym (tell_strongest five five_lawful (items_at xs) o p e t below there (items_kept xs o))
 

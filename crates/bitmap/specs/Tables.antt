@@ -1,8 +1,9 @@
 -- What rows, and the table of all objects, hold.
-use Rattle.std.specs.Prelude.{◌≡◌, ℕ, ◌<◌, Bool, true, false, cond, ◌&&◌, ◌==◌, List, Result, MatchResult, slice_index_or}
+use Rattle.std.specs.Prelude.{◌≡◌, ℕ, ◌<◌, Bool, true, false, cond, ◌&&◌, ◌==◌, List, Result, MatchResult, fold, slice_index_or}
 use Rattle.scales.specs.declared.five.FiveState.{FiveState}
 use Rattle.scales.specs.declared.five.FiveState.TheVariants.{Unassign}
 use Rattle.scales.specs.Five.{five}
+use Rattle.model.specs.States.{join}
 use Rattle.model.specs.Joining.{joining}
 use Rattle.model.specs.Folds.{any_below}
 use Rattle.model.specs.Stores.{assigned, state_towards}
@@ -65,3 +66,7 @@ row_option e k r = cond (row_is_for e r) (cell_at r k).option false
 
 abbrev pub row_state : ℕ → ℕ → Orientation → Row → FiveState
 row_state e k t r = cond (row_is_for e r) (state_towards (joining five) t (cell_at r k)) Unassign
+
+-- the join of what the rows give a grantee in an orientation, row by row
+abbrev pub rows_strongest : ℕ → ℕ → Orientation → List Row → FiveState
+rows_strongest e k t rows = fold (λ before row. join five (row_state e k t row) before) Unassign rows

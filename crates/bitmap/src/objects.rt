@@ -1,15 +1,14 @@
 // What the items of one object answer, and how one of them is rewritten.
-ghost use Rattle.std.specs.Prelude.{◌≡◌, ◌<◌, true, not, length, replicate, fold, count_by, position, slice_set};
+ghost use Rattle.std.specs.Prelude.{◌≡◌, ◌<◌, true, not, length, replicate, count_by, position, slice_set};
 ghost use Rattle.std.specs.List.{list_any};
 ghost use Rattle.model.specs.Allowed.{is_allowed};
 ghost use Rattle.model.specs.Joining.{joining};
 ghost use Rattle.model.specs.Privileges.{bit as bit_of};
 ghost use Rattle.model.specs.States.{join as join_of};
 ghost use Rattle.model.specs.Stores.{assigned};
-ghost use Rattle.scales.specs.declared.five.FiveState.TheVariants.{Unassign};
 ghost use Rattle.scales.specs.Five.{five};
 ghost use Rattle.bitmap.specs.Items.{pair_of, RoomFor, ItemSet, Written};
-ghost use Rattle.bitmap.specs.Tables.{empty_row, row_at, row_in_use, row_is_of, row_is_for, row_option, row_state, items_of};
+ghost use Rattle.bitmap.specs.Tables.{empty_row, row_at, row_in_use, row_is_of, row_is_for, row_option, row_state, rows_strongest, items_of};
 
 use crate::item::Item;
 use crate::object_items::ObjectItems;
@@ -123,9 +122,7 @@ impl ObjectItems {
         privilege: Privilege,
         orientation: Orientation,
     ) -> FiveState
-        ensures { result
-            ≡ fold (λ before row. join_of five (row_state grantee (bit_of privilege) orientation row) before)
-            Unassign self.now.rows }
+        ensures { result ≡ rows_strongest grantee (bit_of privilege) orientation self.now.rows }
     {
         self.rows.iter().fold(FiveState::Unassign, |before, row| {
             joined(row.state_for(grantee, privilege, orientation), before)
