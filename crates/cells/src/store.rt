@@ -9,7 +9,7 @@ use crate::record::CellRecord;
 use model::cell::{Cell, Orientation};
 use model::place::Place;
 use model::principal::Principal;
-use model::privilege::Privilege;
+use model::right::Right;
 use model::scale::Scale;
 use model::store::Store;
 
@@ -61,22 +61,22 @@ impl<'a, S: Scale> Store<S> for CellList<'a, S> {
         is_pair_used(self.records, self.counted(), object, granter, grantee)
     }
 
-    fn has_option(&self, object: u8, privilege: Privilege, grantee: Principal) -> bool {
-        has_option(self.records, self.counted(), object, privilege, grantee)
+    fn has_option(&self, right: Right, grantee: Principal) -> bool {
+        has_option(
+            self.records,
+            self.counted(),
+            right.object,
+            right.privilege,
+            grantee,
+        )
     }
 
-    fn strongest(
-        &self,
-        object: u8,
-        privilege: Privilege,
-        grantee: Principal,
-        orientation: Orientation,
-    ) -> S {
+    fn strongest(&self, right: Right, grantee: Principal, orientation: Orientation) -> S {
         strongest(
             self.records,
             self.counted(),
-            object,
-            privilege,
+            right.object,
+            right.privilege,
             grantee,
             orientation,
         )

@@ -10,5 +10,5 @@ returns g c =
     let s = g.S.Scale.states in
     let t = c.args.self.now in
     c.has_option.ensures
-    ∙ ap (λ (n : ℕ). any_below n (λ i. option_by c.args.object c.args.privilege c.args.grantee (place_at t.records.now i) (cell_at s t.records.now i))) c.counted.ensures.value
-    ∙ tell_option s g.met.S.Scale.lawful t.unassign t.records.now t.len (record { within = t.within; assigned = t.assigned; ranged = t.ranged; distinct = t.distinct; roomy = t.roomy }) c.args.object c.args.privilege c.args.grantee
+    ∙ ap (λ (n : ℕ). any_below n (λ i. option_by c.args.right.object c.args.right.privilege c.args.grantee (place_at t.records.now i) (cell_at s t.records.now i))) c.counted.ensures.value
+    ∙ tell_option s g.met.S.Scale.lawful t.unassign t.records.now t.len (record { within = t.within; assigned = t.assigned; ranged = t.ranged; distinct = t.distinct; roomy = t.roomy }) c.args.right.object c.args.right.privilege c.args.grantee

@@ -11,5 +11,5 @@ returns g c =
     let s = g.S.Scale.states in
     let t = c.args.self.now in
     c.strongest.ensures
-    ∙ ap (λ (n : ℕ). join_below (joining s) n (λ i. state_by (joining s) c.args.object c.args.privilege c.args.grantee c.args.orientation (place_at t.records.now i) (cell_at s t.records.now i))) c.counted.ensures.value
-    ∙ tell_strongest s g.met.S.Scale.lawful t.unassign t.records.now t.len (record { within = t.within; assigned = t.assigned; ranged = t.ranged; distinct = t.distinct; roomy = t.roomy }) c.args.object c.args.privilege c.args.grantee c.args.orientation
+    ∙ ap (λ (n : ℕ). join_below (joining s) n (λ i. state_by (joining s) c.args.right.object c.args.right.privilege c.args.grantee c.args.orientation (place_at t.records.now i) (cell_at s t.records.now i))) c.counted.ensures.value
+    ∙ tell_strongest s g.met.S.Scale.lawful t.unassign t.records.now t.len (record { within = t.within; assigned = t.assigned; ranged = t.ranged; distinct = t.distinct; roomy = t.roomy }) c.args.right.object c.args.right.privilege c.args.grantee c.args.orientation
