@@ -1,17 +1,19 @@
 -- A record that is written over, added at the end, or struck out.
-use Rattle.std.proofs.Common.{◌≡◌, ℕ, ◌+◌, ◌-◌, ◌<◌, ◌≤◌, true, false, cond, not, eqb, List, length, set, sym, refl, ap, ◌∙◌, subst, ⊎_elim, add-one, arith, length-set}
-use Rattle.std.proofs.lemmas.Bool.{cases_eq, cases_Bool, eqb-true, eq-eqb, ne_eqb, and_parts, cond-true, cond-false, not-true}
+use Rattle.std.proofs.Common.{◌≡◌, ℕ, ◌+◌, ◌-◌, ◌<◌, ◌≤◌, true, false, cond, not, eqb, ltb, Bool, ◌||◌, List, length, set, sym, refl, ap, ◌∙◌, subst, ⊎_elim, add-one, arith, length-set}
+use Rattle.std.proofs.lemmas.Bool.{cases_eq, cases_Bool, eqb-true, eq-eqb, ne_eqb, and_parts, cond-true, cond-false, not-true, both_ways, ltb-true}
 use Rattle.model.specs.States.{States, Lawful}
 use Rattle.model.specs.Allowed.{unassigned}
 use Rattle.model.specs.Folds.{one_if}
 use Rattle.model.specs.Places.{place_in_range}
-use Rattle.model.specs.Stores.{put}
+use Rattle.model.specs.Stores.{Cells, put}
 use Rattle.model.specs.declared.place.Place.{Place}
 use Rattle.model.specs.declared.cell.Cell.{Cell}
 use Rattle.model.proofs.Puts.{put_from}
 use Rattle.cells.specs.declared.record.CellRecord.{CellRecord}
 use Rattle.cells.specs.Kept.{place_at, state_at, nowhere, used_in, pairs_in, first_at, Assigned, Ranged, Distinct, Roomy, Kept}
 use Rattle.cells.specs.Listed.{cell_of_record, cell_at, list_cells}
+use Rattle.cells.specs.declared.list.CellList.{CellList}
+use Rattle.cells.specs.Lists.{Becomes}
 use Rattle.cells.proofs.Records.{part_same, part_other, state_cell}
 use Rattle.cells.proofs.Found.{held_none, held_one, held_kept}
 use Rattle.cells.proofs.PairCounts.{used_same, pairs_same, pairs_sub, pairs_step, range_parts}
@@ -150,6 +152,7 @@ module _ {S : Type 0} (s : States S) (law : Lawful s) (u : S) (xs : List (CellRe
       pub replace_kept : Kept u (set xs i r) n
       replace_kept = record {
         within = omega (arith, old.within, same_length);
+        ample = λ lt. omega (arith, old.ample lt, same_length);
         assigned = assigned_set n new (λ j lt _. lt);
         ranged = over_ranged (place_at xs) (place_at (set xs i r)) n i r.place new_at rest_at old.ranged old.distinct old.roomy ln was;
         distinct = over_distinct (place_at xs) (place_at (set xs i r)) n i r.place new_at rest_at old.ranged old.distinct old.roomy ln was;
@@ -166,10 +169,11 @@ module _ {S : Type 0} (s : States S) (law : Lawful s) (u : S) (xs : List (CellRe
           (λ j lj h. (j, lj, every j ∙ h, rest_cell j (λ e. else- (sym h ∙ ap (place_at xs) e ∙ was))))
           (λ k lk h. (k, lk, sym (every k) ∙ h)))
 
-    module _ (end : i ≡ n) (inside : place_in_range r.place ≡ true) (absent : (j : ℕ) → j < n → place_at xs j ≡ r.place → ⊥) (free : used_in (place_at xs) n r.place.object r.place.granter r.place.grantee ≡ false → pairs_in (place_at xs) n r.place.object < 16) where
+    module _ (full : 4096 ≤ length xs) (end : i ≡ n) (inside : place_in_range r.place ≡ true) (absent : (j : ℕ) → j < n → place_at xs j ≡ r.place → ⊥) (free : used_in (place_at xs) n r.place.object r.place.granter r.place.grantee ≡ false → pairs_in (place_at xs) n r.place.object < 16) where
       pub add_kept : Kept u (set xs i r) (n + 1)
       add_kept = record {
         within = omega (arith, same_length);
+        ample = λ lt. omega (arith, same_length);
         assigned = assigned_set (n + 1) new (λ j lt ne. let ne' : j ≡ n → ⊥ = λ f. ne (f ∙ sym end) in omega arith);
         ranged = add_ranged (place_at xs) (place_at (set xs i r)) n i r.place new_at rest_at old.ranged old.distinct old.roomy end inside absent free;
         distinct = add_distinct (place_at xs) (place_at (set xs i r)) n i r.place new_at rest_at old.ranged old.distinct old.roomy end inside absent free;
@@ -198,6 +202,7 @@ module _ {S : Type 0} (s : States S) (law : Lawful s) (u : S) (xs : List (CellRe
     pub strike_kept : Kept u (set xs i r) (n - 1)
     strike_kept = record {
       within = omega (arith, old.within, same_length);
+      ample = λ lt. omega (arith, old.ample (omega arith), same_length);
       assigned = assigned_set (n - 1) (λ h. old.assigned (n - 1) (omega arith) (state_cell s u xs (n - 1) within_last ∙ ap (λ (c : Cell S). c.state) (sym last_cell) ∙ h)) (λ j lt _. omega arith);
       ranged = strike_ranged (place_at xs) (place_at (set xs i r)) n i ln strike_here rest_at old.ranged old.distinct old.roomy;
       distinct = strike_distinct (place_at xs) (place_at (set xs i r)) n i ln strike_here rest_at old.ranged old.distinct old.roomy;
@@ -219,6 +224,14 @@ module _ {S : Type 0} (s : States S) (law : Lawful s) (u : S) (xs : List (CellRe
         (cases_eq j (n - 1)))
         (λ k lk h. let w = from k lk in (w.0, w.1, sym w.2 ∙ h)))
 
--- the same, read off a list and a count that are equal to those
-pub cells_to : {S : Type 0} (s : States S) {ys zs : List (CellRecord S)} {m k : ℕ} → ys ≡ zs → m ≡ k → list_cells s ys m ≡ list_cells s zs k
-cells_to {S} s {ys} {zs} {m} {k} e f = ap (λ (l : List (CellRecord S)). list_cells s l m) e ∙ ap (λ (j : ℕ). list_cells s zs j) f
+-- the same, read off the fields of a list
+pub becomes : {S : Type 0} {g : _} (s : States S) (old new : CellList S g) {cells : Cells S} (xs : List (CellRecord S)) (n : ℕ) → new.memory.now ≡ xs → new.len ≡ n → length xs ≡ length old.memory.now → list_cells s xs n ≡ cells → Becomes s old new cells
+becomes {S} s old new xs n e f long held = record {
+  holds = ap (λ (l : List (CellRecord S)). list_cells s l new.len) e ∙ ap (list_cells s xs) f ∙ held;
+  memory = ap length e ∙ long;
+}
+
+-- a pair that is not in use fits
+pub room_free : (used : Bool) (pairs : ℕ) → (used || ltb pairs 16) ≡ true → used ≡ false → pairs < 16
+room_free true pairs h e = absurd (both_ways true e refl)
+room_free false pairs h e = ltb-true pairs 16 h
