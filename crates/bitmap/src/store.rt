@@ -12,7 +12,7 @@ use model::cell::{Cell, Orientation};
 use model::object::is_object;
 use model::place::Place;
 use model::principal::Principal;
-use model::privilege::Privilege;
+use model::right::Right;
 use model::store::Store;
 use scales::five::FiveState;
 
@@ -78,26 +78,25 @@ impl Store<FiveState> for BitmapTable {
         }
     }
 
-    fn has_option(&self, object: u8, privilege: Privilege, grantee: Principal) -> bool {
-        if !is_grantee_in_range(object, grantee) {
+    fn has_option(&self, right: Right, grantee: Principal) -> bool {
+        if !is_grantee_in_range(right.object, grantee) {
             return false;
         }
-        self.objects[object as usize].has_option(number(grantee), privilege.bit() as u32)
+        self.objects[right.object as usize].has_option(number(grantee), right.privilege.bit() as u32)
     }
 
     fn strongest(
         &self,
-        object: u8,
-        privilege: Privilege,
+        right: Right,
         grantee: Principal,
         orientation: Orientation,
     ) -> FiveState {
-        if !is_grantee_in_range(object, grantee) {
+        if !is_grantee_in_range(right.object, grantee) {
             return FiveState::Unassign;
         }
-        self.objects[object as usize].strongest(
+        self.objects[right.object as usize].strongest(
             number(grantee),
-            privilege.bit() as u32,
+            right.privilege.bit() as u32,
             orientation,
         )
     }

@@ -1,7 +1,7 @@
 // One bit of a 32-bit word, read and written.
 #![tactic(auto)]
 
-ghost use Rattle.std.specs.Prelude.{◌≡◌, ℕ, ◌/◌, ◌^◌, ◌<◌, ◌≤◌, if◌then◌else◌, ◌≢◌};
+ghost use Rattle.std.specs.Prelude.{◌≡◌, ℕ, ◌/◌, ◌^◌, ◌<◌, ◌≤◌, ◌==◌, if◌then◌else◌, ◌≢◌};
 ghost use Rattle.bits.specs.Bit.{bit};
 
 pub const WIDTH: u32 = 32;
@@ -12,6 +12,13 @@ pub fn digit(x: u32, k: u32) -> u32
     ensures binary { result < 2 }
 {
     if k < WIDTH { shifted(x, k) & 1 } else { 0 }
+}
+
+// Whether bit k of x is set; none is past the width.
+pub fn is_set(x: u32, k: u32) -> bool
+    ensures { result ≡ (bit x k == 1) }
+{
+    digit(x, k) == 1
 }
 
 fn shifted(x: u32, k: u32) -> u32
@@ -31,5 +38,5 @@ pub fn with_bit(x: u32, k: u32, on: bool) -> u32
         return x;
     }
     let mask = 1u32 << k;
-    if on { x | mask } else { (x | mask) ^ mask }
+    if on { x | mask } else { x & !mask }
 }

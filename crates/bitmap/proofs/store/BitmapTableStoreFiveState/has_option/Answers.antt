@@ -18,14 +18,14 @@ use Rattle.bitmap.proofs.store.BitmapTableStoreFiveState.has_option.Goals as goa
 pub returns-then-not-is_grantee_in_range : goal.returns-then-not-is_grantee_in_range
 returns-then-not-is_grantee_in_range c =
     let xs = c.args.self.now.objects in
-    sym ((answers_outside_lem five five_lawful (table_cells xs) (cells_outside five five_lawful (items_at xs))).no_option c.args.object c.args.privilege c.args.grantee (sym c.is_grantee_in_range.ensures ∙ c.if-not-is_grantee_in_range.true))
+    sym ((answers_outside_lem five five_lawful (table_cells xs) (cells_outside five five_lawful (items_at xs))).no_option c.args.right.object c.args.right.privilege c.args.grantee (sym c.is_grantee_in_range.ensures ∙ c.if-not-is_grantee_in_range.true))
 
 pub returns : goal.returns
 returns c =
     let xs = c.args.self.now.objects in
-    let o = c.args.object in
+    let o = c.args.right.object in
     let e = c.args.grantee in
-    let p = c.args.privilege in
+    let p = c.args.right.privilege in
     let in- = and_parts (object_in_range o) (in_range e) (sym c.is_grantee_in_range.ensures ∙ c.if-not-is_grantee_in_range.false) in
     c.has_option.ensures
     ∙ ap (λ (rows : List Row). any_below 16 (option_in (joining five) (items_of rows) c.number.result c.bit.result)) (sym (rows_getD xs o _ (search rules)))
