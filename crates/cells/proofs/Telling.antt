@@ -1,16 +1,16 @@
 -- What a list's records answer is what its cells answer.
-use Rattle.std.proofs.Common.{◌≡◌, ℕ, zero, suc, ◌/◌, ◌%◌, ◌<◌, Bool, true, false, cond, ◌&&◌, ◌||◌, eqb, ltb, ◌⊎◌, List, [], ◌∷◌, length, take, get_or, fold, sym, refl, ap, ◌∙◌, subst, inl, inr, ⊎_elim, arith}
+use Rattle.std.proofs.Common.{◌≡◌, ℕ, zero, suc, ◌/◌, ◌%◌, ◌<◌, true, false, cond, ◌&&◌, eqb, ◌⊎◌, List, [], ◌∷◌, length, take, get_or, fold, sym, refl, ap, ◌∙◌, subst, inl, inr, ⊎_elim, arith}
 use Rattle.std.specs.List.{list_any}
 use mathlib.Core.Path.{fun_ext}
-use Rattle.std.proofs.lemmas.Bool.{cases_Bool, eqb-true, eq-eqb, and_parts, and_from, both_ways, cond-true, cond-false, not_from_false, or_left, ltb-true}
+use Rattle.std.proofs.lemmas.Bool.{cases_Bool, eqb-true, eq-eqb, and_parts, and_from, both_ways, cond-true, cond-false, not_from_false, ltb-true}
 use Rattle.model.specs.Principals.{object_in_range}
 use Rattle.model.specs.Privileges.{bit}
 use Rattle.model.specs.States.{States, Lawful, same, join}
 use Rattle.model.specs.Joining.{joining, JoinLaws}
-use Rattle.model.specs.Allowed.{Allowed, is_allowed, unassigned}
+use Rattle.model.specs.Allowed.{Allowed, unassigned}
 use Rattle.model.specs.Folds.{count_below, any_below, join_below}
 use Rattle.model.specs.Places.{place, place_in_range, same_principal, principal_at, privilege_at, number}
-use Rattle.model.specs.Stores.{assigned, in_use, pairs, has_option, state_towards, strongest, has_room, writable, no_cells, Sound}
+use Rattle.model.specs.Stores.{assigned, in_use, pairs, has_option, state_towards, strongest, no_cells, Sound}
 use Rattle.model.specs.declared.principal.Principal.{Principal}
 use Rattle.model.specs.declared.right.Right.{Right}
 use Rattle.model.specs.declared.place.Place.{Place}
@@ -20,10 +20,9 @@ use Rattle.model.proofs.Joins.{join_laws}
 use Rattle.model.proofs.Counting.{any_some, any_iff, count_same}
 use Rattle.model.proofs.JoinFolds.{same_joined}
 use Rattle.model.proofs.Numbering.{number_in, at_number, bit_below, at_bit, bit_same, principal_same, same_principals, place_eq}
-use Rattle.model.proofs.Outside.{towards_none, unassigned_none, unassigned_allowed, allowed_unassigned, answers_outside_lem}
-use Rattle.model.proofs.Allowing.{allowed_decides}
+use Rattle.model.proofs.Outside.{towards_none, unassigned_none, unassigned_allowed, answers_outside_lem}
 use Rattle.cells.specs.declared.record.CellRecord.{CellRecord}
-use Rattle.cells.specs.Kept.{place_at, nowhere, is_ample, is_of, used_in, pairs_in, first_at, Ranged, Distinct, Kept}
+use Rattle.cells.specs.Kept.{place_at, nowhere, is_of, used_in, pairs_in, first_at, Ranged, Distinct, Kept}
 use Rattle.cells.specs.Listed.{cell_of_record, record_of, cell_at, held, list_cells, is_for, option_by, state_by}
 use Rattle.cells.proofs.Records.{part_read, state_cell, record_allowed}
 use Rattle.cells.proofs.Found.{search_place, held_none, held_one}
@@ -174,7 +173,6 @@ module _ {S : Type 0} (s : States S) (law : Lawful s) (xs : List (CellRecord S))
 pub new_kept : {S : Type 0} (u : S) (xs : List (CellRecord S)) → Kept u xs 0
 new_kept u xs = record {
   within = omega arith;
-  ample = λ lt. absurd (omega arith);
   assigned = λ i lt. absurd (omega arith);
   ranged = λ i lt. absurd (omega arith);
   distinct = λ i j w. absurd (omega (arith, w.first));
@@ -183,22 +181,3 @@ new_kept u xs = record {
 
 pub new_empty : {S : Type 0} (s : States S) (xs : List (CellRecord S)) → list_cells s xs 0 ≡ no_cells s
 new_empty s xs = fun_ext (λ p. held_none s (place_at xs) (cell_at s xs) 0 p (λ i lt. absurd (omega arith)))
-
--- what a write answers, and what it leaves
-module _ {S : Type 0} (s : States S) (law : Lawful s) (xs : List (CellRecord S)) (n : ℕ) (kept : Kept s.unassign xs n) (p : Place) (c : Cell S) (full : is_ample xs ≡ true) (inside : place_in_range p ≡ true) (fine : is_allowed s c ≡ true) where
-  pub assign_told : (r : Bool) → same s c.state s.unassign ≡ false → r ≡ (used_in (place_at xs) n p.object p.granter p.grantee || ltb (pairs_in (place_at xs) n p.object) 16) → r ≡ writable s (is_ample xs) (list_cells s xs n) p c
-  assign_told r stays told =
-      told
-      ∙ ap (λ (b : Bool). b || ltb (pairs_in (place_at xs) n p.object) 16) (used_told s law xs n kept p.object p.granter p.grantee)
-      ∙ ap (λ (x : ℕ). in_use (joining s) (list_cells s xs n) p.object p.granter p.grantee || ltb x 16) (pairs_told s law xs n kept p.object)
-      ∙ ap (λ (b : Bool). b || (in_use (joining s) (list_cells s xs n) p.object p.granter p.grantee || ltb (pairs (joining s) (list_cells s xs n) p.object) 16)) (sym stays)
-      ∙ ap (λ (b : Bool). b && has_room (joining s) (list_cells s xs n) p c) (sym fine)
-      ∙ ap (λ (b : Bool). b && (is_allowed s c && has_room (joining s) (list_cells s xs n) p c)) (sym inside)
-      ∙ ap (λ (b : Bool). b && (place_in_range p && (is_allowed s c && has_room (joining s) (list_cells s xs n) p c))) (sym full)
-
-  pub revoke_told : same s c.state s.unassign ≡ true → true ≡ writable s (is_ample xs) (list_cells s xs n) p c
-  revoke_told gone = sym (and_from (is_ample xs) _ full (and_from (place_in_range p) _ inside (and_from (is_allowed s c) _ fine (or_left (same s c.state s.unassign) _ gone))))
-
-  -- an allowed cell whose state is unassign is the one of what nobody assigned
-  pub revoked_is : same s c.state s.unassign ≡ true → unassigned s ≡ c
-  revoked_is gone = sym (allowed_unassigned s law c ((allowed_decides s law c).0 fine) (((join_laws s law).told_apart c.state s.unassign).0 gone))

@@ -1,5 +1,5 @@
 -- What the list keeps, at every scale: it speaks of places, and of a state that no record has.
-use Rattle.std.specs.Prelude.{◌≡◌, ℕ, zero, suc, ◌/◌, ◌%◌, ◌<◌, ◌≤◌, Bool, true, not, ◌&&◌, List, [], ◌∷◌, length, ◌==◌, ◌≢◌, nat_le}
+use Rattle.std.specs.Prelude.{◌≡◌, ℕ, zero, suc, ◌/◌, ◌%◌, ◌<◌, ◌≤◌, Bool, true, not, ◌&&◌, List, [], ◌∷◌, length, ◌==◌, ◌≢◌}
 use Rattle.model.specs.Folds.{any_below, count_below}
 use Rattle.model.specs.Places.{place, place_in_range, same_principal, principal_at}
 use Rattle.model.specs.declared.principal.Principal.{Principal}
@@ -58,15 +58,9 @@ Distinct at n = (i j : ℕ) → Twice at n i j → i ≡ j
 abbrev pub Roomy : (ℕ → Place) → ℕ → Type 0
 Roomy at n = (o : ℕ) → o < 32 → pairs_in at n o ≤ 16
 
--- lent 4,096 records
-abbrev pub is_ample : {S : Type 0} → List (CellRecord S) → Bool
-is_ample xs = nat_le 4096 (length xs)
-
 -- all that the list keeps of the first n records of its memory, where no record has the state u
 pub record Kept {S : Type 0} (u : S) (xs : List (CellRecord S)) (n : ℕ) : Type 0 where
   pub within : n ≤ length xs
-  -- without the full memory no record counts
-  pub ample : 0 < n → 4096 ≤ length xs
   pub assigned : Assigned u (state_at u xs) n
   pub ranged : Ranged (place_at xs) n
   pub distinct : Distinct (place_at xs) n

@@ -1,5 +1,5 @@
 -- A list as one value: what it holds, and what a change leaves of it.
-use Rattle.std.specs.Prelude.{◌≡◌, ◌≢◌, ℕ, ◌<◌, ◌≤◌, Bool, true, ◌||◌, length, nat_lt}
+use Rattle.std.specs.Prelude.{◌≡◌, ◌≢◌, ℕ, ◌<◌, ◌≤◌, Bool, true, ◌||◌, length, nat_le, nat_lt}
 use Rattle.model.specs.States.{States}
 use Rattle.model.specs.Allowed.{Allowed}
 use Rattle.model.specs.Places.{place_in_range}
@@ -13,6 +13,10 @@ use Rattle.cells.specs.Listed.{list_cells}
 -- the cells that a list holds
 abbrev pub cells_of : {S : Type 0} {g : _} → States S → CellList S g → Cells S
 cells_of s t = list_cells s t.memory.now t.len
+
+-- lent 4,096 records
+abbrev pub is_ample : {S : Type 0} {g : _} → CellList S g → Bool
+is_ample t = nat_le 4096 (length t.memory.now)
 
 -- record i counts, and is the one of a place
 pub record IsAt {S : Type 0} {g : _} (t : CellList S g) (p : Place) (i : ℕ) : Type 0 where

@@ -1,3 +1,4 @@
+ghost use Rattle.std.specs.Prelude.{◌≡◌, take};
 ghost use Rattle.cells.specs.Kept.{Kept};
 
 use crate::record::CellRecord;
@@ -9,4 +10,13 @@ pub struct CellList<'a, S: Scale> {
     pub(crate) memory: &'a mut [CellRecord<S>],
     pub(crate) len: usize,
     ghost kept: { Kept S.Scale.states.unassign memory.now len },
+}
+
+impl<'a, S: Scale> CellList<'a, S> {
+    // The records that count.
+    pub(crate) fn records(&self) -> &[CellRecord<S>]
+        ensures { result.now ≡ take self.now.len self.now.memory.now }
+    {
+        &self.memory[..self.len]
+    }
 }

@@ -63,7 +63,11 @@ fn is_for(place: Place, right: Right, grantee: Principal) -> bool
 pub(crate) fn find<S: Scale>(records: &[CellRecord<S>], place: Place) -> Option<usize>
     ensures { result ≡ position (λ r. same_place r.place place) records.now }
 {
-    records.iter().position(|slot| slot.place.same(place))
+    records.iter().position(
+        |slot|
+            ensures { result ≡ same_place slot.now.place place }
+        { slot.place == place },
+    )
 }
 
 pub(crate) fn is_pair_used<S: Scale>(records: &[CellRecord<S>], pair: Pair) -> bool

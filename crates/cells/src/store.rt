@@ -1,8 +1,7 @@
 // The cell list as a store of any scale.
-ghost use Rattle.std.specs.Prelude.{◌≡◌, length, nat_le, take};
+ghost use Rattle.std.specs.Prelude.{◌≡◌, length, nat_le};
 ghost use Rattle.model.specs.Stores.{no_cells};
-ghost use Rattle.cells.specs.Kept.{is_ample as is_ample_of};
-ghost use Rattle.cells.specs.Lists.{cells_of};
+ghost use Rattle.cells.specs.Lists.{cells_of, is_ample as is_ample_of};
 
 use crate::list::CellList;
 use crate::reads::{count_pairs, has_option, is_pair_used, is_unassign, strongest};
@@ -20,30 +19,23 @@ pub const RECORDS: usize = 4096;
 impl<'a, S: Scale> CellList<'a, S> {
     // A new list: unassign everywhere. It has its full memory if that is lent.
     pub fn new(memory: &'a mut [CellRecord<S>]) -> CellList<'a, S>
-        ensures memory { is_ample_of result.memory.now ≡ nat_le 4096 (length memory.old) }
+        ensures memory { is_ample_of result ≡ nat_le 4096 (length memory.old) }
         ensures empty { cells_of S.Scale.states result ≡ no_cells S.Scale.states }
     {
         CellList { memory, len: 0 }
     }
 
     fn is_ample(&self) -> bool
-        ensures { result ≡ is_ample_of self.now.memory.now }
+        ensures { result ≡ is_ample_of self.now }
     {
         RECORDS <= self.memory.len()
-    }
-
-    // The records that count.
-    pub(crate) fn records(&self) -> &[CellRecord<S>]
-        ensures { result.now ≡ take self.now.len self.now.memory.now }
-    {
-        &self.memory[..self.len]
     }
 }
 
 impl<'a, S: Scale> Store<S> for CellList<'a, S> {
     ghost cells = { λ t. cells_of S.Scale.states t };
 
-    ghost full = { λ t. is_ample_of t.memory.now };
+    ghost full = { λ t. is_ample_of t };
 
     fn has_full_memory(&self) -> bool {
         self.is_ample()
