@@ -1,3 +1,4 @@
+pub mod Lists
 pub mod ItemLaws
 pub mod Held
 pub mod Telling

@@ -1,19 +1,27 @@
 -- Sixteen rows as items, and one of them set.
-use Rattle.std.proofs.Common.{◌≡◌, ℕ, ◌+◌, ◌%◌, ◌^◌, ◌<◌, Bool, true, false, eqb, ltb, List, length, set, sym, refl, ap, ◌∙◌, subst, ⊎_elim, arith, get_or-set_other, get_or-set_same, rules}
+use Rattle.std.proofs.Common.{◌≡◌, ℕ, ◌+◌, ◌%◌, ◌^◌, ◌<◌, Bool, true, false, cond, not, ◌&&◌, eqb, ltb, List, Option, Some, None, is_some, fold, length, set, sym, refl, ap, ◌∙◌, subst, ⊎_elim, arith, get_or-set_other, get_or-set_same, rules}
+use Rattle.std.specs.List.{list_any, count_by, position}
 use native.Mathlib.Nat.{zero-div}
-use Rattle.std.proofs.lemmas.Bool.{cases_eq, both_ways, cond_both}
+use Rattle.std.proofs.lemmas.Bool.{cases_eq, both_ways, cond_both, not-true, not-false}
+use Rattle.std.proofs.lemmas.Bool.Decides.{nat_tests}
+use Rattle.std.proofs.lemmas.List.Quantifiers.{position-Some}
 use Rattle.bits.specs.Bit.{bit}
 use Rattle.scales.specs.declared.five.FiveState.{FiveState}
+use Rattle.scales.specs.declared.five.FiveState.TheVariants.{Unassign}
 use Rattle.scales.specs.Five.{five}
-use Rattle.model.specs.States.{Lawful}
+use Rattle.model.specs.States.{Lawful, join}
 use Rattle.model.specs.Joining.{joining}
 use Rattle.model.specs.Allowed.{Allowed}
-use Rattle.model.specs.Folds.{any_below}
+use Rattle.model.specs.Folds.{count_below, any_below, join_below}
+use Rattle.model.specs.Stores.{state_towards}
+use Rattle.model.specs.declared.cell.Orientation.{Orientation}
 use Rattle.model.specs.declared.cell.Cell.{Cell}
 use Rattle.bitmap.specs.declared.row.Row.{Row}
-use Rattle.bitmap.specs.Layout.{ValidRow, cell_at, code_at, option_at, decode, valid_by, valid_at, CellSet}
-use Rattle.bitmap.specs.Items.{item_in_use, pair_of, Kept, ItemSet}
-use Rattle.bitmap.specs.Tables.{empty_row, row_at, items_of, row_in_use, EachValid, EachInRange, OnePerPair, Bit}
+use Rattle.bitmap.specs.declared.pair.Pair.{Pair}
+use Rattle.bitmap.specs.Layout.{ValidRow, cell_at, code_at, option_at, decoded, decode, valid_by, valid_at, CellSet}
+use Rattle.bitmap.specs.Items.{item_in_use, is_item_of, pair_of, option_in, state_in, Kept, ItemSet}
+use Rattle.bitmap.specs.Tables.{empty_row, row_at, items_of, row_in_use, row_is_of, row_is_for, row_option, row_state, EachValid, EachInRange, OnePerPair, Bit}
+use Rattle.bitmap.proofs.Lists.{position-None, is_some-position, list_any_below, count_by_below, fold_below}
 use Rattle.bitmap.proofs.Held.{set_kept}
 use Rattle.bitmap.proofs.Writing.{pair_below}
 
@@ -27,16 +35,18 @@ use_is rows i = refl
 -- every cell that is read from bits is allowed
 decode_allowed : (code : ℕ) (o : Bool) → Allowed five (decode code o)
 decode_allowed code o =
-    cond_both (eqb code 0b10000) _ _ (Allowed five) (λ _. search rules)
-    (λ _. cond_both (eqb code 0b01000) _ _ (Allowed five) (λ _. search rules)
-    (λ _. cond_both (eqb code 0b00100) _ _ (Allowed five) (λ _. search rules)
-    (λ _. cond_both (eqb code 0b00010) _ _ (Allowed five) (λ _. search rules)
-    (λ _. cond_both (eqb code 0b01001) _ _ (Allowed five) (λ _. search rules)
-    (λ _. cond_both (eqb code 0b00101) _ _ (Allowed five) (λ _. search rules)
-    (λ _. cond_both (eqb code 0b00011) _ _ (Allowed five) (λ _. search rules) (λ _. search rules)))))))
+    let P : Option (FiveState × Orientation) → Type 0 = λ m. Allowed five (decoded m o) in
+    cond_both (eqb code 0b00000) _ _ P (λ _. search rules)
+    (λ _. cond_both (eqb code 0b10000) _ _ P (λ _. search rules)
+    (λ _. cond_both (eqb code 0b01000) _ _ P (λ _. search rules)
+    (λ _. cond_both (eqb code 0b00100) _ _ P (λ _. search rules)
+    (λ _. cond_both (eqb code 0b00010) _ _ P (λ _. search rules)
+    (λ _. cond_both (eqb code 0b01001) _ _ P (λ _. search rules)
+    (λ _. cond_both (eqb code 0b00101) _ _ P (λ _. search rules)
+    (λ _. cond_both (eqb code 0b00011) _ _ P (λ _. search rules) (λ _. search rules))))))))
 
 pub items_allowed : (rows : List Row) (i k : ℕ) → Allowed five ((items_of rows).cell i k)
-items_allowed rows i k = decode_allowed (code_at (row_at rows i) k) (eqb (option_at (row_at rows i) k) 1)
+items_allowed rows i k = decode_allowed (code_at (row_at rows i) k) (option_at (row_at rows i) k)
 
 pub rows_kept : (rows : List Row) → EachInRange rows → OnePerPair rows → Kept five (items_of rows)
 rows_kept rows ranged single = record {
@@ -44,6 +54,10 @@ rows_kept rows ranged single = record {
   bounded = λ i li _. pair_below (row_at rows i).granter (row_at rows i).grantee (ranged i li).0 (ranged i li).1;
   allowed = items_allowed rows;
 }
+
+-- a row that is given to a pair has the cells of before
+pub given_cells : {r n w : Row} {k g e : ℕ} {c : Cell FiveState} → w ≡ record n { granter = g; grantee = e } → CellSet r n k c → CellSet r w k c
+given_cells {r} {n} {w} {k} {g} {e} {c} is set = subst (λ (x : Row). CellSet r x k c) (sym is) (record { here = set.here; others = set.others })
 
 -- row i is set
 module _ (rows : List Row) (i : ℕ) (w : Row) (li : i < length rows) where
@@ -61,10 +75,10 @@ module _ (rows : List Row) (i : ℕ) (w : Row) (li : i < length rows) where
       (λ ne. subst (P a) (sym (row_other a ne)) (all a))
       (cases_eq a i)
 
-  module _ (g e k : ℕ) (c : Cell FiveState) (lg : g < 128) (le : e < 128) (lk : k < 8) (i16 : i < 16) (gives : w.granter ≡ g) (gets : w.grantee ≡ e) (valid : ValidRow w) (cells : CellSet (row_at rows i) w k c) where
-    pub row_item_set : ItemSet (items_of rows) (items_of (set rows i w)) i (pair_of g e) k c
+  module _ (p : Pair) (k : ℕ) (c : Cell FiveState) (lk : k < 8) (i16 : i < 16) (gives : w.granter ≡ p.granter) (gets : w.grantee ≡ p.grantee) (valid : ValidRow w) (cells : CellSet (row_at rows i) w k c) where
+    pub row_item_set : ItemSet (items_of rows) (items_of (set rows i w)) i (pair_of p.granter p.grantee) k c
     row_item_set = record {
-      pair_here = ap (λ (r : Row). pair_of r.granter r.grantee) row_same ∙ ap (λ (x : ℕ). pair_of x w.grantee) gives ∙ ap (λ (x : ℕ). pair_of g x) gets;
+      pair_here = ap (λ (r : Row). pair_of r.granter r.grantee) row_same ∙ ap (λ (x : ℕ). pair_of x w.grantee) gives ∙ ap (λ (x : ℕ). pair_of p.granter x) gets;
       cell_here = ap (λ (r : Row). cell_at r k) row_same ∙ cells.here;
       cells_kept = λ q lq ne. ap (λ (r : Row). cell_at r q) row_same ∙ cells.others q lq ne;
       pairs_kept = λ a la ne. ap (λ (r : Row). pair_of r.granter r.grantee) (row_other a ne);
@@ -75,11 +89,64 @@ module _ (rows : List Row) (i : ℕ) (w : Row) (li : i < length rows) where
     set_each all a q b = each_kept (λ a r. Bit a q → valid_at r q ≡ true) (λ a. all a q) (λ a b. valid q b.place) a b
 
     pub set_ranged : EachInRange rows → EachInRange (set rows i w)
-    set_ranged all = each_kept (λ a r. a < 16 → (r.granter < 128) × (r.grantee < 128)) all (λ a _. (subst (λ (x : ℕ). x < 128) (sym gives) lg, subst (λ (x : ℕ). x < 128) (sym gets) le))
+    set_ranged all = each_kept (λ a r. a < 16 → (r.granter < 128) × (r.grantee < 128)) all (λ a _. (subst (λ (x : ℕ). x < 128) (sym gives) p.gives, subst (λ (x : ℕ). x < 128) (sym gets) p.gets))
 
-    pub set_single : EachInRange rows → OnePerPair rows → (item_in_use (joining five) (items_of rows) i ≡ true → (items_of rows).pair i ≡ pair_of g e) → ((a : ℕ) → a < 16 → item_in_use (joining five) (items_of rows) a ≡ true → (items_of rows).pair a ≡ pair_of g e → a ≡ i) → OnePerPair (set rows i w)
+    pub set_single : EachInRange rows → OnePerPair rows → (item_in_use (joining five) (items_of rows) i ≡ true → (items_of rows).pair i ≡ pair_of p.granter p.grantee) → ((a : ℕ) → a < 16 → item_in_use (joining five) (items_of rows) a ≡ true → (items_of rows).pair a ≡ pair_of p.granter p.grantee → a ≡ i) → OnePerPair (set rows i w)
     set_single ranged single was only a b both =
-        (set_kept five five_lawful (items_of rows) (items_of (set rows i w)) i (pair_of g e) k c i16 lk (pair_below g e lg le) (rows_kept rows ranged single) (items_allowed (set rows i w)) was only row_item_set).single a b both.first both.second both.first_used both.second_used both.same
+        (set_kept five five_lawful (items_of rows) (items_of (set rows i w)) i (pair_of p.granter p.grantee) k c i16 lk (pair_below p.granter p.grantee p.gives p.gets) (rows_kept rows ranged single) (items_allowed (set rows i w)) was only row_item_set).single a b both.first both.second both.first_used both.second_used both.same
+
+-- a pair by its two numbers, and by the one number of both
+pair_tests : (g e h f : ℕ) → e < 128 → f < 128 → (eqb g h && eqb e f) ≡ eqb (pair_of g e) (pair_of h f)
+pair_tests g e h f le lf = grind (arith, nat_tests)
+
+second_of : (g e : ℕ) → e < 128 → pair_of g e % 128 ≡ e
+second_of g e lt = omega arith
+
+-- what sixteen rows tell, said of their items
+module _ (rows : List Row) (long : length rows ≡ 16) (ranged : EachInRange rows) where
+  of_is : (g e i : ℕ) → e < 128 → i < 16 → row_is_of g e (row_at rows i) ≡ is_item_of (joining five) (items_of rows) (pair_of g e) i
+  of_is g e i le lt =
+      let r = row_at rows i in
+      ap (λ (b : Bool). b && (eqb r.granter g && eqb r.grantee e)) (use_is rows i) ∙ ap (λ (b : Bool). item_in_use (joining five) (items_of rows) i && b) (pair_tests r.granter r.grantee g e (ranged i lt).1 le)
+
+  for_is : (e i : ℕ) → i < 16 → row_is_for e (row_at rows i) ≡ (item_in_use (joining five) (items_of rows) i && eqb ((items_of rows).pair i % 128) e)
+  for_is e i lt =
+      let r = row_at rows i in
+      ap (λ (b : Bool). b && eqb r.grantee e) (use_is rows i) ∙ ap (λ (n : ℕ). item_in_use (joining five) (items_of rows) i && eqb n e) (sym (second_of r.granter r.grantee (ranged i lt).1))
+
+  pub rows_count : count_by row_in_use rows ≡ count_below 16 (item_in_use (joining five) (items_of rows))
+  rows_count = count_by_below row_in_use rows empty_row 16 _ long (λ i lt. use_is rows i)
+
+  pub rows_option : (e k : ℕ) → list_any (row_option e k) rows ≡ any_below 16 (option_in (joining five) (items_of rows) e k)
+  rows_option e k =
+      list_any_below (row_option e k) rows empty_row 16 _ long
+      (λ i lt. ap (λ (b : Bool). cond b (cell_at (row_at rows i) k).option false) (for_is e i lt))
+
+  pub rows_strongest : (e k : ℕ) (t : Orientation) → fold (λ before row. join five (row_state e k t row) before) Unassign rows ≡ join_below (joining five) 16 (state_in (joining five) (items_of rows) e k t)
+  rows_strongest e k t =
+      fold_below (joining five) (row_state e k t) rows empty_row 16 _ long
+      (λ i lt. ap (λ (b : Bool). cond b (state_towards (joining five) t (cell_at (row_at rows i) k)) Unassign) (for_is e i lt))
+
+  pub rows_used : (g e : ℕ) → e < 128 → is_some (position (row_is_of g e) rows) ≡ any_below 16 (is_item_of (joining five) (items_of rows) (pair_of g e))
+  rows_used g e le = is_some-position (row_is_of g e) rows empty_row 16 _ long (λ i lt. of_is g e i le lt)
+
+  -- the item of a pair, or none
+  pub pair_found : (g e i : ℕ) → e < 128 → position (row_is_of g e) rows ≡ Some i → (i < 16) × (is_item_of (joining five) (items_of rows) (pair_of g e) i ≡ true)
+  pair_found g e i le at =
+      let w = position-Some (row_is_of g e) rows i empty_row at in
+      let lt : i < 16 = omega (arith, w.0) in (lt, sym (of_is g e i le lt) ∙ w.1)
+
+  pub pair_absent : (g e : ℕ) → e < 128 → position (row_is_of g e) rows ≡ None → (i : ℕ) → i < 16 → is_item_of (joining five) (items_of rows) (pair_of g e) i ≡ false
+  pair_absent g e le none i lt = sym (of_is g e i le lt) ∙ position-None (row_is_of g e) rows empty_row none i (omega arith)
+
+  -- an item that is not in use, or none
+  pub free_found : (i : ℕ) → position (λ row. not (row_in_use row)) rows ≡ Some i → (i < 16) × (item_in_use (joining five) (items_of rows) i ≡ false)
+  free_found i at =
+      let w = position-Some (λ row. not (row_in_use row)) rows i empty_row at in
+      (omega (arith, w.0), sym (use_is rows i) ∙ not-true _ w.1)
+
+  pub none_free : position (λ row. not (row_in_use row)) rows ≡ None → (i : ℕ) → i < 16 → item_in_use (joining five) (items_of rows) i ≡ true
+  none_free none i lt = sym (use_is rows i) ∙ not-false _ (position-None (λ row. not (row_in_use row)) rows empty_row none i (omega arith))
 
 -- rows that are all empty
 pub none_used : row_in_use empty_row ≡ false
@@ -89,14 +156,14 @@ none_used = refl
 bit_zero : (k : ℕ) → bit 0 k ≡ 0
 bit_zero k = ap (λ (n : ℕ). n % 2) (zero-div (2 ^ k))
 
-zero_valid : (k : ℕ) → valid_by k 0 0 ≡ true
+zero_valid : (k : ℕ) → valid_by k 0 false ≡ true
 zero_valid k = cond_both (ltb k 8) true _ (λ b. b ≡ true) (λ _. refl) (λ _. cond_both (ltb k 16) true _ (λ b. b ≡ true) (λ _. refl) (λ _. cond_both (ltb k 24) true true (λ b. b ≡ true) (λ _. refl) (λ _. refl)))
 
 empty_valid : (k : ℕ) → valid_at empty_row k ≡ true
 empty_valid k =
     let z = bit_zero k in
     let code : code_at empty_row k ≡ 0 = omega arith in
-    ap (λ (n : ℕ). valid_by k n (bit 0 (k + 16))) code ∙ ap (λ (n : ℕ). valid_by k 0 n) (bit_zero (k + 16)) ∙ zero_valid k
+    ap (λ (n : ℕ). valid_by k n (eqb (bit 0 (k + 16)) 1)) code ∙ ap (λ (n : ℕ). valid_by k 0 (eqb n 1)) (bit_zero (k + 16)) ∙ zero_valid k
 
 module _ (rows : List Row) (all : (i : ℕ) → i < 16 → row_at rows i ≡ empty_row) where
   pub empty_each : EachValid rows

@@ -1,24 +1,35 @@
 -- The table of all objects, and one of them set.
-use Rattle.std.proofs.Common.{◌≡◌, ℕ, zero, suc, ◌<◌, Bool, ◌&&◌, ltb, List, [], ◌∷◌, length, get_or, set, replicate, sym, refl, ap, ◌∙◌, subst, arith}
+use Rattle.std.proofs.Common.{◌≡◌, ℕ, zero, suc, ◌<◌, ◌≤◌, Bool, true, ◌&&◌, ltb, List, Option, Some, None, IfSome, MatchOption, is_some, fold, [], ◌∷◌, length, get_or, set, replicate, sym, refl, ap, ◌∙◌, subst, arith}
 use mathlib.Core.Path.{fun_ext}
-use Rattle.std.proofs.lemmas.Bool.{both_ways, cond_both}
+use Rattle.std.specs.List.{list_any, count_by, position, HoldsAt}
+use Rattle.std.proofs.lemmas.Bool.{both_ways, cond_both, and_parts, ltb-true}
 use Rattle.scales.specs.Five.{five}
 use Rattle.model.specs.Allowed.{unassigned}
 use Rattle.model.specs.Privileges.{bit}
 use Rattle.model.specs.Places.{number}
-use Rattle.model.specs.Stores.{no_cells}
+use Rattle.model.specs.Stores.{no_cells, pairs, in_use, has_option, strongest, AnswersOutside}
+use Rattle.model.specs.Principals.{in_range, object_in_range}
+use Rattle.model.specs.Folds.{count_below, any_below, join_below}
+use Rattle.model.specs.States.{join}
+use Rattle.model.specs.declared.principal.Principal.{Principal}
+use Rattle.model.specs.declared.privilege.Privilege.{Privilege}
+use Rattle.model.specs.declared.cell.Orientation.{Orientation}
+use Rattle.model.proofs.Outside.{answers_outside_lem}
+use Rattle.model.proofs.Numbering.{number_in}
 use Rattle.bitmap.specs.declared.row.Row.{Row}
 use Rattle.bitmap.specs.declared.object_items.ObjectItems.{ObjectItems}
 use Rattle.scales.specs.declared.five.FiveState.{FiveState}
+use Rattle.scales.specs.declared.five.FiveState.TheVariants.{Unassign}
 use Rattle.model.specs.Joining.{joining}
 use Rattle.model.specs.declared.cell.Cell.{Cell}
-use Rattle.bitmap.specs.Items.{held, pair_of, numbered, is_item_of, Kept, Written}
-use Rattle.bitmap.specs.Tables.{empty_row, row_at, items_of, row_in_use}
+use Rattle.bitmap.specs.Items.{held, pair_of, numbered, item_in_use, is_item_of, option_in, state_in, Kept, Written}
+use Rattle.bitmap.specs.Tables.{empty_row, row_at, items_of, row_in_use, row_is_of, row_option, row_state, EachInRange}
 use Rattle.bitmap.specs.Objects.{rows_of, items_at, table_cells}
 use Rattle.bitmap.proofs.Held.{held_none}
-use Rattle.bitmap.proofs.RowLaws.{rows_kept, items_allowed, use_is, none_used}
+use Rattle.bitmap.proofs.RowLaws.{five_lawful, rows_kept, items_allowed, use_is, none_used, rows_count, rows_used, rows_option, rows_strongest}
+use Rattle.bitmap.proofs.Telling.{cells_outside, tell_pairs, tell_used, tell_option, tell_strongest}
 
-pub rows_same : (xs : List ObjectItems) (o : ℕ) (x : ObjectItems) → o < length xs → rows_of (set xs o x) o ≡ x.rows.row
+pub rows_same : (xs : List ObjectItems) (o : ℕ) (x : ObjectItems) → o < length xs → rows_of (set xs o x) o ≡ x.rows
 rows_same [] o x lt = absurd (omega arith)
 rows_same (y ∷ ys) zero x lt = refl
 rows_same (y ∷ ys) (suc o) x lt = rows_same ys o x (omega arith)
@@ -30,10 +41,15 @@ rows_other (y ∷ ys) zero x (suc q) ne = refl
 rows_other (y ∷ ys) (suc o) x zero ne = refl
 rows_other (y ∷ ys) (suc o) x (suc q) ne = rows_other ys o x q (λ e. ne (omega arith))
 
-pub rows_getD : (xs : List ObjectItems) (o : ℕ) (d : ObjectItems) → o < length xs → rows_of xs o ≡ (get_or xs o d).rows.row
+pub rows_getD : (xs : List ObjectItems) (o : ℕ) (d : ObjectItems) → o < length xs → rows_of xs o ≡ (get_or xs o d).rows
 rows_getD [] o d lt = absurd (omega arith)
 rows_getD (y ∷ ys) zero d lt = refl
 rows_getD (y ∷ ys) (suc o) d lt = rows_getD ys o d (omega arith)
+
+-- the items that are found in the array
+pub rows_found : {X : Type 0} (now : X → ObjectItems) (xs : List ObjectItems) (k o : ℕ) (r : Option X) → k ≡ o → MatchOption r (length xs ≤ k) (λ x. (k < length xs) × HoldsAt (λ y. now x ≡ y) xs k) → IfSome r (λ x. (now x).rows ≡ rows_of xs o)
+rows_found now xs k o None e h = tt
+rows_found now xs k o (Some x) e h = ap (λ (y : ObjectItems). y.rows) (h.1 (now x)) ∙ sym (rows_getD xs k (now x) h.0) ∙ ap (rows_of xs) e
 
 pub items_kept : (xs : List ObjectItems) (o : ℕ) → Kept five (items_at xs o)
 items_kept [] o = record {
@@ -41,11 +57,11 @@ items_kept [] o = record {
   bounded = λ i _ _. omega arith;
   allowed = items_allowed [];
 }
-items_kept (x ∷ xs) zero = rows_kept x.rows.row x.ranged x.single
+items_kept (x ∷ xs) zero = rows_kept x.rows x.ranged x.single
 items_kept (x ∷ xs) (suc o) = items_kept xs o
 
 -- a table whose rows are all empty
-rows_empty : (n o : ℕ) (x : ObjectItems) (i : ℕ) → x.rows.row ≡ replicate 16 empty_row → row_at (rows_of (replicate n x) o) i ≡ empty_row
+rows_empty : (n o : ℕ) (x : ObjectItems) (i : ℕ) → x.rows ≡ replicate 16 empty_row → row_at (rows_of (replicate n x) o) i ≡ empty_row
 rows_empty zero o x i e = refl
 rows_empty (suc n) zero x i e = ap (λ (rows : List Row). row_at rows i) e ∙ row_empty 16 i
   where
@@ -55,7 +71,7 @@ rows_empty (suc n) zero x i e = ap (λ (rows : List Row). row_at rows i) e ∙ r
     row_empty (suc n) (suc i) = row_empty n i
 rows_empty (suc n) (suc o) x i e = rows_empty n o x i e
 
-cell_empty : (n : ℕ) (x : ObjectItems) → x.rows.row ≡ replicate 16 empty_row → (o g e k : ℕ) → numbered five (items_at (replicate n x)) o g e k ≡ unassigned five
+cell_empty : (n : ℕ) (x : ObjectItems) → x.rows ≡ replicate 16 empty_row → (o g e k : ℕ) → numbered five (items_at (replicate n x)) o g e k ≡ unassigned five
 unfolding numbered
 cell_empty n x empty o g e k =
     cond_both (ltb o 32 && (ltb g 128 && ltb e 128)) (held five (items_at (replicate n x) o) 16 (pair_of g e) k) (unassigned five) (λ c. c ≡ unassigned five)
@@ -63,14 +79,50 @@ cell_empty n x empty o g e k =
     (λ i li up own. both_ways (row_in_use (row_at (rows_of (replicate n x) o) i)) (ap row_in_use (rows_empty n o x i empty) ∙ none_used) (use_is (rows_of (replicate n x) o) i ∙ up)))
     (λ _. refl)
 
-pub table_empty : (n : ℕ) (x : ObjectItems) → x.rows.row ≡ replicate 16 empty_row → table_cells (replicate n x) ≡ no_cells five
+pub table_empty : (n : ℕ) (x : ObjectItems) → x.rows ≡ replicate 16 empty_row → table_cells (replicate n x) ≡ no_cells five
 table_empty n x empty = fun_ext (λ p. cell_empty n x empty p.object (number p.granter) (number p.grantee) (bit p.privilege))
 
--- the items of object o, as they are read from the array
-pub item_read : (xs : List ObjectItems) (o : ℕ) (d : ObjectItems) → o < length xs → {l l' : ℕ} (i : ℕ) → l' ≡ l → is_item_of (joining five) (items_at xs o) l i ≡ is_item_of (joining five) (items_of (get_or xs o d).rows.row) l' i
-item_read xs o d lt {l} {l'} i e =
-    ap (λ (rows : List Row). is_item_of (joining five) (items_of rows) l i) (rows_getD xs o d lt)
-    ∙ ap (λ (n : ℕ). is_item_of (joining five) (items_of (get_or xs o d).rows.row) n i) (sym e)
+-- what the rows of object o tell is what the cells do
+rows_ranged : (xs : List ObjectItems) (o : ℕ) → EachInRange (rows_of xs o)
+rows_ranged [] o = λ i lt. (omega arith, omega arith)
+rows_ranged (x ∷ xs) zero = x.ranged
+rows_ranged (x ∷ xs) (suc o) = rows_ranged xs o
+
+pub outside : (xs : List ObjectItems) → AnswersOutside five (table_cells xs)
+outside xs = answers_outside_lem five five_lawful (table_cells xs) (cells_outside five five_lawful (items_at xs))
+
+module _ (xs : List ObjectItems) (o : ℕ) (inside : object_in_range o ≡ true) (rows : List Row) (is : rows ≡ rows_of xs o) (long : length rows ≡ 16) where
+  ranged : EachInRange rows
+  ranged = subst EachInRange (sym is) (rows_ranged xs o)
+
+  below : o < 32
+  below = ltb-true o 32 inside
+
+  pub count_told : count_by row_in_use rows ≡ pairs (joining five) (table_cells xs) o
+  count_told =
+      rows_count rows long ranged
+      ∙ ap (λ (r : List Row). count_below 16 (item_in_use (joining five) (items_of r))) is
+      ∙ sym (tell_pairs five five_lawful (items_at xs) o below (items_kept xs o))
+
+  pub use_told : (g e : Principal) → (in_range g && in_range e) ≡ true → is_some (position (row_is_of (number g) (number e)) rows) ≡ in_use (joining five) (table_cells xs) o g e
+  use_told g e both =
+      let there = and_parts (in_range g) (in_range e) both in
+      rows_used rows long ranged (number g) (number e) (number_in e there.1)
+      ∙ ap (λ (r : List Row). any_below 16 (is_item_of (joining five) (items_of r) (pair_of (number g) (number e)))) is
+      ∙ sym (tell_used five five_lawful (items_at xs) o g e below there.0 there.1)
+
+  module _ (e : Principal) (p : Privilege) (there : in_range e ≡ true) where
+    pub option_told : list_any (row_option (number e) (bit p)) rows ≡ has_option (table_cells xs) o p e
+    option_told =
+        rows_option rows long ranged (number e) (bit p)
+        ∙ ap (λ (r : List Row). any_below 16 (option_in (joining five) (items_of r) (number e) (bit p))) is
+        ∙ sym (tell_option five five_lawful (items_at xs) o p e below there (items_kept xs o))
+
+    pub strongest_told : (t : Orientation) → fold (λ before row. join five (row_state (number e) (bit p) t row) before) Unassign rows ≡ strongest (joining five) (table_cells xs) o p e t
+    strongest_told t =
+        rows_strongest rows long ranged (number e) (bit p) t
+        ∙ ap (λ (r : List Row). join_below (joining five) 16 (state_in (joining five) (items_of r) (number e) (bit p) t)) is
+        ∙ sym (tell_strongest five five_lawful (items_at xs) o p e t below there (items_kept xs o))
 
 pub pair_read : {g g' e e' : ℕ} → g ≡ g' → e ≡ e' → pair_of g e ≡ pair_of g' e'
 pair_read {g} {g'} {e} {e'} p q = ap (λ (n : ℕ). pair_of n e) p ∙ ap (λ (n : ℕ). pair_of g' n) q

@@ -34,31 +34,37 @@ module _ {S : Type 0} (s : States S) (law : Lawful s) (m : Items S) (kept : Kept
   laws : JoinLaws (joining s)
   laws = join_laws s law
 
-  module _ (n : Items S) (fine : (a q : ℕ) → Allowed s (n.cell a q)) (i : ℕ) (li : i < 16) (set : ItemSet m n i l k c) where
+  -- item i is the pair's own, or it is free and no item is the pair's
+  module _ (i : ℕ) (li : i < 16) where
     pub own_was : is_item_of (joining s) m l i ≡ true → item_in_use (joining s) m i ≡ true → m.pair i ≡ l
     own_was own _ = eqb-true (m.pair i) l (and_parts (item_in_use (joining s) m i) (eqb (m.pair i) l) own).1
 
     pub own_only : is_item_of (joining s) m l i ≡ true → (a : ℕ) → a < 16 → item_in_use (joining s) m a ≡ true → m.pair a ≡ l → a ≡ i
     own_only own a la ua same = let both = and_parts (item_in_use (joining s) m i) (eqb (m.pair i) l) own in kept.single a i la li ua both.0 (same ∙ sym (eqb-true (m.pair i) l both.1))
 
+    pub free_was : item_in_use (joining s) m i ≡ false → item_in_use (joining s) m i ≡ true → m.pair i ≡ l
+    free_was idle up = absurd (both_ways _ idle up)
+
+    pub free_only : ((a : ℕ) → a < 16 → is_item_of (joining s) m l a ≡ false) → (a : ℕ) → a < 16 → item_in_use (joining s) m a ≡ true → m.pair a ≡ l → a ≡ i
+    free_only none a la ua same = absurd (both_ways _ (none a la) (and_from (item_in_use (joining s) m a) (eqb (m.pair a) l) ua (eq-eqb (m.pair a) l same)))
+
+  module _ (n : Items S) (fine : (a q : ℕ) → Allowed s (n.cell a q)) (i : ℕ) (li : i < 16) (set : ItemSet m n i l k c) where
     -- the pair's own item
     pub written_own : is_item_of (joining s) m l i ≡ true → Written s m n l k c true
     written_own own = record {
       told = sym (or_right ((joining s).same c.state s.unassign) _ (or_left (any_below 16 (is_item_of (joining s) m l)) _ (any_some 16 i (is_item_of (joining s) m l) li own)));
-      here = λ _. held_here s law m n i l k c li lk ll kept fine (own_was own) (own_only own) set;
-      others = held_others s law m n i l k c li lk ll kept fine (own_was own) (own_only own) set;
+      here = λ _. held_here s law m n i l k c li lk ll kept fine (own_was i li own) (own_only i li own) set;
+      others = held_others s law m n i l k c li lk ll kept fine (own_was i li own) (own_only i li own) set;
       refused = λ e. absurd (both_ways true e refl);
     }
 
     -- an item that is free
     pub written_free : item_in_use (joining s) m i ≡ false → ((a : ℕ) → a < 16 → is_item_of (joining s) m l a ≡ false) → Written s m n l k c true
     written_free idle none =
-        let was : item_in_use (joining s) m i ≡ true → m.pair i ≡ l = λ up. absurd (both_ways _ idle up) in
-        let only : (a : ℕ) → a < 16 → item_in_use (joining s) m a ≡ true → m.pair a ≡ l → a ≡ i = λ a la ua same. absurd (both_ways _ (none a la) (and_from (item_in_use (joining s) m a) (eqb (m.pair a) l) ua (eq-eqb (m.pair a) l same))) in
         record {
           told = sym (or_right ((joining s).same c.state s.unassign) _ (or_right (any_below 16 (is_item_of (joining s) m l)) _ (lt-ltb (count_below 16 (item_in_use (joining s) m)) 16 (count_not_all 16 i (item_in_use (joining s) m) li idle))));
-          here = λ _. held_here s law m n i l k c li lk ll kept fine was only set;
-          others = held_others s law m n i l k c li lk ll kept fine was only set;
+          here = λ _. held_here s law m n i l k c li lk ll kept fine (free_was i li idle) (free_only i li none) set;
+          others = held_others s law m n i l k c li lk ll kept fine (free_was i li idle) (free_only i li none) set;
           refused = λ e. absurd (both_ways true e refl);
         }
 

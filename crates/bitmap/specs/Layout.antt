@@ -1,5 +1,5 @@
 -- How the bits of a row read.
-use Rattle.std.specs.Prelude.{◌≡◌, ℕ, ◌+◌, ◌*◌, ◌%◌, ◌<◌, Bool, true, false, cond, ◌&&◌, ◌||◌, ◌==◌, ◌≢◌, nat_lt}
+use Rattle.std.specs.Prelude.{◌≡◌, ℕ, ◌+◌, ◌*◌, ◌%◌, ◌<◌, Bool, true, false, cond, not, ◌&&◌, ◌||◌, ◌==◌, ◌≢◌, nat_lt, Some, None, Option, is_some}
 use Rattle.bits.specs.Bit.{bit}
 use Rattle.scales.specs.declared.five.FiveState.{FiveState}
 use Rattle.scales.specs.declared.five.FiveState.TheVariants.{Deny, Suspend, Taint, Grant, Unassign}
@@ -12,36 +12,43 @@ use Rattle.bitmap.specs.declared.row.Row.{Row}
 abbrev pub code_at : Row → ℕ → ℕ
 code_at r k = 16 * bit r.acl k + 8 * bit r.taint k + 4 * bit r.suspend k + 2 * bit r.deny k + bit r.neut k
 
--- bit k + 16 of acl
-abbrev pub option_at : Row → ℕ → ℕ
-option_at r k = bit r.acl (k + 16)
+-- whether bit k + 16 of acl is set
+abbrev pub option_at : Row → ℕ → Bool
+option_at r k = bit r.acl (k + 16) == 1
 
 abbrev pub cell_as : FiveState → Orientation → Bool → Cell FiveState
 cell_as x t o = record { state = x; orientation = t; option = o }
 
--- the eight combinations
-abbrev pub is_code : ℕ → Bool
-is_code c =
-    (c == 0b00000)
-    || (c == 0b10000
-    || (c == 0b01000
-    || (c == 0b00100
-    || (c == 0b00010
-    || (c == 0b01001
-    || (c == 0b00101
-    || c == 0b00011))))))
+-- the state and the orientation of each of the eight combinations
+abbrev pub combination : ℕ → Option (FiveState × Orientation)
+combination c =
+    cond (c == 0b00000) (Some (Unassign, Up))
+    (cond (c == 0b10000) (Some (Grant, Up))
+    (cond (c == 0b01000) (Some (Taint, Down))
+    (cond (c == 0b00100) (Some (Suspend, Down))
+    (cond (c == 0b00010) (Some (Deny, Down))
+    (cond (c == 0b01001) (Some (Taint, Neutral))
+    (cond (c == 0b00101) (Some (Suspend, Neutral))
+    (cond (c == 0b00011) (Some (Deny, Neutral))
+    None)))))))
 
--- the cell of each combination
+abbrev pub is_code : ℕ → Bool
+is_code c = is_some (combination c)
+
+abbrev pub is_grant : FiveState → Bool
+is_grant Deny = false
+is_grant Suspend = false
+is_grant Taint = false
+is_grant Grant = true
+is_grant Unassign = false
+
+-- the cell of a combination: an option stands only with grant
+abbrev pub decoded : Option (FiveState × Orientation) → Bool → Cell FiveState
+decoded None o = cell_as Unassign Up false
+decoded (Some (x, t)) o = cell_as x t (is_grant x && o)
+
 abbrev pub decode : ℕ → Bool → Cell FiveState
-decode c o =
-    cond (c == 0b10000) (cell_as Grant Up o)
-    (cond (c == 0b01000) (cell_as Taint Down false)
-    (cond (c == 0b00100) (cell_as Suspend Down false)
-    (cond (c == 0b00010) (cell_as Deny Down false)
-    (cond (c == 0b01001) (cell_as Taint Neutral false)
-    (cond (c == 0b00101) (cell_as Suspend Neutral false)
-    (cond (c == 0b00011) (cell_as Deny Neutral false)
-    (cell_as Unassign Up false)))))))
+decode c o = decoded (combination c) o
 
 -- the combination of each cell
 abbrev pub encode_as : FiveState → Orientation → ℕ
@@ -66,13 +73,13 @@ encode c = encode_as c.state c.orientation
 
 -- the cell of privilege k
 abbrev pub cell_at : Row → ℕ → Cell FiveState
-cell_at r k = decode (code_at r k) (option_at r k == 1)
+cell_at r k = decode (code_at r k) (option_at r k)
 
 -- bits 0 to 7: one of the eight combinations, and an option only with grant;
 -- bits 16 to 23: none but the options; all others: none
-abbrev pub valid_by : ℕ → ℕ → ℕ → Bool
+abbrev pub valid_by : ℕ → ℕ → Bool → Bool
 valid_by k code option =
-    cond (nat_lt k 8) (is_code code && (option == 0 || code == 0b10000))
+    cond (nat_lt k 8) (is_code code && (not option || code == 0b10000))
     (cond (nat_lt k 16) (code == 0)
     (cond (nat_lt k 24) (code % 16 == 0)
     (code == 0)))
@@ -89,7 +96,7 @@ pub record DigitSet (x y k d : ℕ) : Type 0 where
   pub others : (i : ℕ) → (i ≢ k) → bit y i ≡ bit x i
 
 -- a row with a combination and an option set at k
-pub record CodeSet (r t : Row) (k code option : ℕ) : Type 0 where
+pub record CodeSet (r t : Row) (k code : ℕ) (option : Bool) : Type 0 where
   pub here : code_at t k ≡ code
   pub option_here : option_at t k ≡ option
   pub others : (i : ℕ) → (i ≢ k) → (i ≢ k + 16) → code_at t i ≡ code_at r i

@@ -11,7 +11,7 @@ use Rattle.bitmap.specs.Tables.{items_of}
 -- the rows of object o
 abbrev pub rows_of : List ObjectItems → ℕ → List Row
 rows_of [] o = []
-rows_of (x ∷ xs) zero = x.rows.row
+rows_of (x ∷ xs) zero = x.rows
 rows_of (x ∷ xs) (suc o) = rows_of xs o
 
 abbrev pub items_at : List ObjectItems → ℕ → Items FiveState

@@ -1,10 +1,12 @@
 -- What rows, and the table of all objects, hold.
-use Rattle.std.specs.Prelude.{◌≡◌, ℕ, ◌<◌, Bool, true, List, slice_index_or}
+use Rattle.std.specs.Prelude.{◌≡◌, ℕ, ◌<◌, Bool, true, false, cond, ◌&&◌, ◌==◌, List, slice_index_or}
 use Rattle.scales.specs.declared.five.FiveState.{FiveState}
+use Rattle.scales.specs.declared.five.FiveState.TheVariants.{Unassign}
 use Rattle.scales.specs.Five.{five}
 use Rattle.model.specs.Joining.{joining}
 use Rattle.model.specs.Folds.{any_below}
-use Rattle.model.specs.Stores.{assigned}
+use Rattle.model.specs.Stores.{assigned, state_towards}
+use Rattle.model.specs.declared.cell.Orientation.{Orientation}
 use Rattle.bitmap.specs.declared.row.Row.{Row}
 use Rattle.bitmap.specs.Layout.{cell_at, valid_at}
 use Rattle.bitmap.specs.Items.{Items, pair_of, item_in_use}
@@ -44,3 +46,17 @@ OnePerPair rows = (a b : ℕ) → SamePair rows a b → a ≡ b
 -- a row is in use while one of its cells is not unassign
 unfoldable pub row_in_use : Row → Bool
 row_in_use r = any_below 8 (λ k. assigned (joining five) (cell_at r k).state)
+
+-- whether a row is in use for a pair, or for a grantee
+abbrev pub row_is_of : ℕ → ℕ → Row → Bool
+row_is_of g e r = row_in_use r && (r.granter == g && r.grantee == e)
+
+abbrev pub row_is_for : ℕ → Row → Bool
+row_is_for e r = row_in_use r && r.grantee == e
+
+-- what a row gives a grantee: its option, and its state in an orientation
+abbrev pub row_option : ℕ → ℕ → Row → Bool
+row_option e k r = cond (row_is_for e r) (cell_at r k).option false
+
+abbrev pub row_state : ℕ → ℕ → Orientation → Row → FiveState
+row_state e k t r = cond (row_is_for e r) (state_towards (joining five) t (cell_at r k)) Unassign

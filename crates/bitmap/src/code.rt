@@ -4,21 +4,23 @@ ghost use Rattle.bits.specs.Bit.{bit};
 ghost use Rattle.model.specs.Allowed.{Allowed, is_allowed};
 ghost use Rattle.model.specs.Privileges.{bit as bit_of};
 ghost use Rattle.scales.specs.Five.{five};
-ghost use Rattle.bitmap.specs.Layout.{code_at, option_at, is_code, decode, encode_as, cell_at, valid_at, ValidRow, DigitSet, CodeSet, CellSet};
+ghost use Rattle.bitmap.specs.Layout.{code_at, option_at, combination, is_code, decode, encode_as, cell_at, valid_at, ValidRow, DigitSet, CodeSet, CellSet};
 
 use crate::item::Item;
+use crate::pair::Pair;
 use crate::row::Row;
-use bits::{digit, with_bit};
+use bits::{digit, is_set, with_bit};
 use model::cell::{Cell, Orientation};
 use model::privilege::Privilege;
 use scales::five::FiveState;
 
 impl Row {
     // Bit k of acl, taint, suspend, deny and neut as one number of five bits.
-    fn code(&self, k: u32) -> u32
+    fn code(&self, k: u8) -> u32
         ensures value { result ≡ code_at self.now k }
         ensures below { result < 32 }
     {
+        let k = u32::from(k);
         16 * digit(self.acl, k)
             + 8 * digit(self.taint, k)
             + 4 * digit(self.suspend, k)
@@ -26,80 +28,84 @@ impl Row {
             + digit(self.neut, k)
     }
 
-    fn option(&self, k: u32) -> u32
-        requires { k < 32 }
+    fn option(&self, k: u8) -> bool
         ensures { result ≡ option_at self.now k }
     {
-        digit(self.acl, option_bit(k))
+        is_set(self.acl, option_bit(k))
     }
 
-    fn is_valid_at(&self, k: u32) -> bool
-        requires { k < 32 }
+    fn is_valid_at(&self, k: u8) -> bool
         ensures { result ≡ valid_at self.now k }
     {
         let code = self.code(k);
-        if k < 8 {
-            is_legal(code) && (self.option(k) == 0 || code == 0b10000)
-        } else if k < 16 {
-            code == 0
-        } else if k < 24 {
-            code % 16 == 0
-        } else {
-            code == 0
+        match k {
+            0..=7 => is_legal(code) && (!self.option(k) || code == 0b10000),
+            16..=23 => code % 16 == 0,
+            _ => code == 0,
         }
     }
 
     fn is_valid(&self) -> bool
         ensures { Decides result (ValidRow self.now) }
     {
-        for k in 0..32u32 {
-            if !self.is_valid_at(k) {
-                return false;
-            }
-        }
-        true
+        (0..32).all(|k| self.is_valid_at(k))
+    }
+
+    // The cell of a privilege.
+    pub(crate) fn cell_for(&self, privilege: Privilege) -> Cell<FiveState>
+        ensures { result ≡ cell_at self.now (bit_of privilege) }
+    {
+        self.cell(privilege.bit())
+    }
+
+    pub(crate) fn cell(&self, k: u8) -> Cell<FiveState>
+        ensures { result ≡ cell_at self.now k }
+    {
+        decoded(self.code(k), self.option(k))
     }
 }
 
-fn option_bit(k: u32) -> u32
-    requires { k < 32 }
+fn option_bit(k: u8) -> u32
     ensures { result ≡ k + 16 }
 {
-    k + 16
+    u32::from(k) + 16
 }
 
-fn is_legal(code: u32) -> bool
-    ensures { result ≡ is_code code }
+// The state and the orientation of each of the eight combinations.
+fn combination(code: u32) -> Option<(FiveState, Orientation)>
+    ensures { result ≡ combination code }
 {
-    matches!(
-        code,
-        0b00000 | 0b10000 | 0b01000 | 0b00100 | 0b00010 | 0b01001 | 0b00101 | 0b00011
-    )
-}
-
-fn decoded(code: u32, option: bool) -> Cell<FiveState>
-    ensures { result ≡ decode code option }
-{
-    let (state, orientation) = match code {
-        0b10000 => {
-            return Cell {
-                state: FiveState::Grant,
-                orientation: Orientation::Up,
-                option,
-            };
-        }
+    let pair = match code {
+        0b00000 => (FiveState::Unassign, Orientation::Up),
+        0b10000 => (FiveState::Grant, Orientation::Up),
         0b01000 => (FiveState::Taint, Orientation::Down),
         0b00100 => (FiveState::Suspend, Orientation::Down),
         0b00010 => (FiveState::Deny, Orientation::Down),
         0b01001 => (FiveState::Taint, Orientation::Neutral),
         0b00101 => (FiveState::Suspend, Orientation::Neutral),
         0b00011 => (FiveState::Deny, Orientation::Neutral),
-        _ => (FiveState::Unassign, Orientation::Up),
+        _ => return None,
     };
-    Cell {
-        state,
-        orientation,
-        option: false,
+    Some(pair)
+}
+
+fn is_legal(code: u32) -> bool
+    ensures { result ≡ is_code code }
+{
+    combination(code).is_some()
+}
+
+// The cell of a combination: an option stands only with grant.
+fn decoded(code: u32, option: bool) -> Cell<FiveState>
+    ensures { result ≡ decode code option }
+{
+    match combination(code) {
+        Some((state, orientation)) => Cell {
+            state,
+            orientation,
+            option: state == FiveState::Grant && option,
+        },
+        None => Cell::unassigned(),
     }
 }
 
@@ -107,29 +113,28 @@ fn encoded(state: FiveState, orientation: Orientation) -> u32
     ensures value { result ≡ encode_as state orientation }
     ensures below { result < 32 }
 {
-    let neutral = matches!(orientation, Orientation::Neutral);
-    match state {
-        FiveState::Unassign => 0b00000,
-        FiveState::Grant => 0b10000,
-        FiveState::Taint if neutral => 0b01001,
-        FiveState::Taint => 0b01000,
-        FiveState::Suspend if neutral => 0b00101,
-        FiveState::Suspend => 0b00100,
-        FiveState::Deny if neutral => 0b00011,
-        FiveState::Deny => 0b00010,
+    match (state, orientation) {
+        (FiveState::Unassign, _) => 0b00000,
+        (FiveState::Grant, _) => 0b10000,
+        (FiveState::Taint, Orientation::Neutral) => 0b01001,
+        (FiveState::Taint, _) => 0b01000,
+        (FiveState::Suspend, Orientation::Neutral) => 0b00101,
+        (FiveState::Suspend, _) => 0b00100,
+        (FiveState::Deny, Orientation::Neutral) => 0b00011,
+        (FiveState::Deny, _) => 0b00010,
     }
 }
 
 // A field with bit k as the code has it at one of its five places.
-fn with_digit(field: u32, k: u32, code: u32, place: u32) -> u32
+fn with_digit(field: u32, k: u8, code: u32, place: u32) -> u32
     requires { k < 32 }
     ensures { DigitSet field result k (bit code place) }
 {
-    with_bit(field, k, digit(code, place) == 1)
+    with_bit(field, u32::from(k), is_set(code, place))
 }
 
 // The field acl with the option of privilege k set or cleared.
-fn with_option(acl: u32, k: u32, option: bool) -> u32
+fn with_option(acl: u32, k: u8, option: bool) -> u32
     requires { k < 16 }
     ensures { DigitSet acl result (k + 16) (if option then 1 else 0) }
 {
@@ -137,19 +142,18 @@ fn with_option(acl: u32, k: u32, option: bool) -> u32
 }
 
 impl Row {
-    fn with_code(self, k: u32, code: u32, option: bool) -> Row
+    fn with_code(self, k: u8, code: u32, option: bool) -> Row
         requires bit { k < 8 }
         requires code { code < 32 }
-        ensures { CodeSet self result k code (if option then 1 else 0) }
+        ensures { CodeSet self result k code option }
     {
         Row {
-            granter: self.granter,
-            grantee: self.grantee,
             acl: with_option(with_digit(self.acl, k, code, 4), k, option),
             taint: with_digit(self.taint, k, code, 3),
             suspend: with_digit(self.suspend, k, code, 2),
             deny: with_digit(self.deny, k, code, 1),
             neut: with_digit(self.neut, k, code, 0),
+            ..self
         }
     }
 
@@ -183,40 +187,40 @@ impl Item {
     pub fn cell_for(&self, privilege: Privilege) -> Cell<FiveState>
         ensures { result ≡ cell_at self.now.row (bit_of privilege) }
     {
-        self.cell(privilege.bit() as u32)
+        self.row.cell_for(privilege)
     }
 
     // The item with a privilege's cell changed, if the cell is an allowed one.
     pub fn with(self, privilege: Privilege, cell: &Cell<FiveState>) -> Option<Item>
         ensures { MatchOption result (Allowed five cell.now → ⊥) (λ item. CellSet self.row item.row (bit_of privilege) cell.now) }
     {
-        if !cell.is_allowed() {
-            return None;
+        if cell.is_allowed() {
+            Some(self.with_cell(privilege, *cell))
+        } else {
+            None
         }
-        let (granter, grantee) = (self.row.granter, self.row.grantee);
-        Some(self.with_cell(granter, grantee, privilege.bit() as u32, *cell))
     }
 
-    // The cell of privilege k.
-    pub(crate) fn cell(&self, k: u32) -> Cell<FiveState>
-        requires { k < 8 }
-        ensures { result ≡ cell_at self.now.row k }
-    {
-        decoded(self.row.code(k), self.row.option(k) == 1)
-    }
-
-    // The item of another pair, or the same, with one cell changed.
-    pub(crate) fn with_cell(self, granter: u8, grantee: u8, k: u32, cell: Cell<FiveState>) -> Item
-        requires bit { k < 8 }
-        requires allowed { is_allowed five cell ≡ true }
-        ensures granter { result.row.granter ≡ granter }
-        ensures grantee { result.row.grantee ≡ grantee }
-        ensures cells { CellSet self.row result.row k cell }
+    pub(crate) fn with_cell(self, privilege: Privilege, cell: Cell<FiveState>) -> Item
+        requires { is_allowed five cell ≡ true }
+        ensures { CellSet self.row result.row (bit_of privilege) cell }
     {
         let code = encoded(cell.state, cell.orientation);
-        let mut row = self.row.with_code(k, code, cell.option);
-        row.granter = granter;
-        row.grantee = grantee;
-        Item { row }
+        Item {
+            row: self.row.with_code(privilege.bit(), code, cell.option),
+        }
+    }
+
+    // The item of another pair, or the same: its cells stay.
+    pub(crate) fn given_to(self, pair: Pair) -> Item
+        ensures { result.row ≡ record self.row { granter = pair.granter; grantee = pair.grantee } }
+    {
+        Item {
+            row: Row {
+                granter: pair.granter,
+                grantee: pair.grantee,
+                ..self.row
+            },
+        }
     }
 }

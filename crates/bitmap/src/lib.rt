@@ -5,7 +5,7 @@ mod code;
 pub mod item;
 mod object_items;
 mod objects;
+mod pair;
 pub mod row;
-mod rows;
 pub mod store;
 pub mod table;

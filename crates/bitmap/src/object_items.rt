@@ -1,12 +1,14 @@
+ghost use Rattle.std.specs.Prelude.{◌≡◌, length};
 ghost use Rattle.bitmap.specs.Tables.{EachValid, EachInRange, OnePerPair};
 
-use crate::rows::Rows;
+use crate::row::Row;
 
 // The table of one object: sixteen items, which lie as plain rows.
 #[derive(Clone, Copy)]
 pub struct ObjectItems {
-    pub(crate) rows: Rows,
-    ghost valid: { EachValid rows.row },
-    ghost ranged: { EachInRange rows.row },
-    ghost single: { OnePerPair rows.row },
+    pub(crate) rows: [Row; 16],
+    ghost sixteen: { length rows ≡ 16 },
+    ghost valid: { EachValid rows },
+    ghost ranged: { EachInRange rows },
+    ghost single: { OnePerPair rows },
 }

@@ -1,12 +1,13 @@
 // The bitmap table as a store of the five-state scale.
-ghost use Rattle.std.specs.Prelude.{◌≡◌, true, ◌&&◌};
+ghost use Rattle.std.specs.Prelude.{◌≡◌, true, ◌&&◌, is_some, IfSome};
 ghost use Rattle.model.specs.Principals.{in_range, object_in_range};
 ghost use Rattle.model.specs.Places.{number as number_of};
 ghost use Rattle.model.specs.Stores.{no_cells};
 ghost use Rattle.scales.specs.Five.{five};
-ghost use Rattle.bitmap.specs.Objects.{table_cells};
+ghost use Rattle.bitmap.specs.Objects.{rows_of, table_cells};
 
 use crate::object_items::ObjectItems;
+use crate::pair::{Pair, number};
 use crate::table::BitmapTable;
 use model::cell::{Cell, Orientation};
 use model::object::is_object;
@@ -16,29 +17,6 @@ use model::right::Right;
 use model::store::Store;
 use scales::five::FiveState;
 
-// A principal's number: users first, then roles; 128 where none such can be.
-fn number(principal: Principal) -> u8
-    ensures { result ≡ number_of principal }
-{
-    match principal {
-        Principal::User(user) if user < 64 => user,
-        Principal::Role(role) if role < 64 => 64 + role,
-        _ => 128,
-    }
-}
-
-fn is_grantee_in_range(object: u8, grantee: Principal) -> bool
-    ensures { result ≡ (object_in_range object && in_range grantee) }
-{
-    is_object(object) && grantee.is_in_range()
-}
-
-fn is_pair_in_range(object: u8, granter: Principal, grantee: Principal) -> bool
-    ensures { result ≡ (object_in_range object && (in_range granter && in_range grantee)) }
-{
-    is_object(object) && granter.is_in_range() && grantee.is_in_range()
-}
-
 impl BitmapTable {
     // A new table: unassign everywhere.
     pub fn new() -> BitmapTable
@@ -47,6 +25,23 @@ impl BitmapTable {
         BitmapTable {
             objects: [ObjectItems::empty(); 32],
         }
+    }
+
+    // The items of an object, if there can be such a one.
+    fn items(&self, object: u8) -> Option<&ObjectItems>
+        ensures in_range { is_some result ≡ object_in_range object }
+        ensures rows { IfSome result (λ items. items.now.rows ≡ rows_of self.now.objects object) }
+    {
+        self.objects.get(usize::from(object))
+    }
+
+    // The items of an object and the number of a grantee, if there can be both.
+    fn items_for(&self, object: u8, grantee: Principal) -> Option<(&ObjectItems, u8)>
+        ensures in_range { is_some result ≡ (object_in_range object && in_range grantee) }
+        ensures rows { IfSome result (λ found. found.0.now.rows ≡ rows_of self.now.objects object) }
+        ensures grantee { IfSome result (λ found. found.1 ≡ number_of grantee) }
+    {
+        Some((self.items(object)?, number(grantee)?))
     }
 }
 
@@ -61,54 +56,42 @@ impl Store<FiveState> for BitmapTable {
     }
 
     fn pairs_in_use(&self, object: u8) -> usize {
-        if !is_object(object) {
-            return 0;
+        match self.items(object) {
+            Some(items) => items.count(),
+            None => 0,
         }
-        self.objects[object as usize].count()
     }
 
     fn is_pair_in_use(&self, object: u8, granter: Principal, grantee: Principal) -> bool {
-        if !is_pair_in_range(object, granter, grantee) {
+        let (Some(items), Some(pair)) = (self.items(object), Pair::of(granter, grantee)) else {
             return false;
-        }
-        let items = &self.objects[object as usize];
-        match items.position(number(granter), number(grantee)) {
-            Some(_) => true,
-            None => false,
-        }
+        };
+        items.position(pair).is_some()
     }
 
     fn has_option(&self, right: Right, grantee: Principal) -> bool {
-        if !is_grantee_in_range(right.object, grantee) {
+        let Some((items, grantee)) = self.items_for(right.object, grantee) else {
             return false;
-        }
-        self.objects[right.object as usize].has_option(number(grantee), right.privilege.bit() as u32)
+        };
+        items.has_option(grantee, right.privilege)
     }
 
-    fn strongest(
-        &self,
-        right: Right,
-        grantee: Principal,
-        orientation: Orientation,
-    ) -> FiveState {
-        if !is_grantee_in_range(right.object, grantee) {
+    fn strongest(&self, right: Right, grantee: Principal, orientation: Orientation) -> FiveState {
+        let Some((items, grantee)) = self.items_for(right.object, grantee) else {
             return FiveState::Unassign;
-        }
-        self.objects[right.object as usize].strongest(
-            number(grantee),
-            right.privilege.bit() as u32,
-            orientation,
-        )
+        };
+        items.strongest(grantee, right.privilege, orientation)
     }
 
     fn write(&mut self, place: Place, cell: &Cell<FiveState>) -> bool {
-        if !place.is_in_range() || !cell.is_allowed() {
+        let Some(pair) = Pair::of(place.granter, place.grantee) else {
+            return false;
+        };
+        if !is_object(place.object) || !cell.is_allowed() {
             return false;
         }
-        let granter = number(place.granter);
-        let grantee = number(place.grantee);
-        let object = &mut self.objects[place.object as usize];
-        object.write(granter, grantee, place.privilege.bit() as u32, *cell)
+        // No `get_mut`: of an array it says nothing of the element.
+        self.objects[usize::from(place.object)].write(pair, place.privilege, *cell)
     }
 
     fn sound(&self) {}

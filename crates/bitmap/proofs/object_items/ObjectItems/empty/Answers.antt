@@ -1,4 +1,4 @@
-use Rattle.std.proofs.Common.{◌≡◌, ℕ, ◌<◌, replicate, rules}
+use Rattle.std.proofs.Common.{◌≡◌, ℕ, ◌<◌, replicate, refl, rules}
 use lib.ListN.{get_or-replicate}
 use Rattle.bitmap.specs.Tables.{empty_row, row_at, EachValid, EachInRange, OnePerPair}
 use Rattle.bitmap.proofs.RowLaws.{empty_each, empty_ranged, empty_single}
@@ -17,4 +17,4 @@ single_start : OnePerPair (replicate 16 empty_row)
 single_start = empty_single (replicate 16 empty_row) at_each
 
 pub invariant_of-result : goal.invariant_of-result
-invariant_of-result c = record { valid = search (rules, valid_start); ranged = search (rules, ranged_start); single = search (rules, single_start) }
+invariant_of-result c = record { sixteen = refl; valid = search (rules, valid_start); ranged = search (rules, ranged_start); single = search (rules, single_start) }

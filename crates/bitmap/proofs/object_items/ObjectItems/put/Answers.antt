@@ -1,37 +1,38 @@
-use Rattle.std.proofs.Common.{◌<◌, List, length, sym, subst, arith}
+use Rattle.std.proofs.Common.{◌≡◌, ◌<◌, length, length-set, set, sym, ap, ◌∙◌, subst, arith}
+use Rattle.model.specs.Privileges.{bit}
+use Rattle.model.proofs.Numbering.{bit_below}
 use Rattle.bitmap.specs.declared.row.Row.{Row}
 use Rattle.bitmap.specs.Layout.{CellSet}
 use Rattle.bitmap.specs.Items.{ItemSet, pair_of}
 use Rattle.bitmap.specs.Tables.{items_of, row_at, EachValid, EachInRange, OnePerPair}
-use Rattle.bitmap.proofs.RowLaws.{row_item_set, set_each, set_ranged, set_single}
+use Rattle.bitmap.proofs.RowLaws.{given_cells, row_item_set, set_each, set_ranged, set_single}
 use Rattle.bitmap.proofs.object_items.ObjectItems.put.Goals as goal
 
 pub invariant_of-self : goal.invariant_of-self
 invariant_of-self c =
-    let was = c.args.self.now in
-    let rows = was.rows.row in
-    let i = c.args.i in
-    let new = c.with_cell-item.result in
-    let k = c.args.k in
-    let p = c.requires in
-    let inside : i < length rows = omega (arith, p.item, c.put_back.ensures.count) in
-    let cells : CellSet (row_at rows i) new.row k c.args.cell = subst (λ (r : Row). CellSet r new.row k c.args.cell) c.item.ensures c.with_cell-item.ensures.cells in
-    let told = c.with_cell-item.ensures in
+    let a = c.args in
+    let was = a.self.now in
+    let new = c.given_to-item.result in
+    let is = c.given_to-item.ensures in
+    let inside : a.i < length was.rows = omega (arith, was.sixteen, c.requires.item) in
+    let cells : CellSet (row_at was.rows a.i) new.row (bit a.privilege) a.cell = given_cells is (subst (λ (r : Row). CellSet r c.with_cell.result.row (bit a.privilege) a.cell) c.item.ensures c.with_cell.ensures) in
+    let gives : new.row.granter ≡ a.pair.granter = ap (λ (r : Row). r.granter) is in
+    let gets : new.row.grantee ≡ a.pair.grantee = ap (λ (r : Row). r.grantee) is in
+    let put = sym c.put_back.ensures in
     record {
-      valid = subst EachValid (sym c.put_back.ensures.rows) (set_each rows i new.row inside c.args.granter c.args.grantee k c.args.cell p.gives p.gets p.bit p.item told.granter told.grantee new.valid cells was.valid);
-      ranged = subst EachInRange (sym c.put_back.ensures.rows) (set_ranged rows i new.row inside c.args.granter c.args.grantee k c.args.cell p.gives p.gets p.bit p.item told.granter told.grantee new.valid cells was.ranged);
-      single = subst OnePerPair (sym c.put_back.ensures.rows) (set_single rows i new.row inside c.args.granter c.args.grantee k c.args.cell p.gives p.gets p.bit p.item told.granter told.grantee new.valid cells was.ranged was.single p.was p.only);
+      sixteen = length-set was.rows a.i c.put_back.new.self ∙ was.sixteen;
+      valid = subst (λ (r : Row). EachValid (set was.rows a.i r)) put (set_each was.rows a.i new.row inside a.pair (bit a.privilege) a.cell (bit_below a.privilege) c.requires.item gives gets new.valid cells was.valid);
+      ranged = subst (λ (r : Row). EachInRange (set was.rows a.i r)) put (set_ranged was.rows a.i new.row inside a.pair (bit a.privilege) a.cell (bit_below a.privilege) c.requires.item gives gets new.valid cells was.ranged);
+      single = subst (λ (r : Row). OnePerPair (set was.rows a.i r)) put (set_single was.rows a.i new.row inside a.pair (bit a.privilege) a.cell (bit_below a.privilege) c.requires.item gives gets new.valid cells was.ranged was.single c.requires.was c.requires.only);
     }
 
 pub returns : goal.returns
 returns c =
-    let rows = c.args.self.now.rows.row in
-    let i = c.args.i in
-    let new = c.with_cell-item.result in
-    let k = c.args.k in
-    let p = c.requires in
-    let inside : i < length rows = omega (arith, p.item, c.put_back.ensures.count) in
-    let cells : CellSet (row_at rows i) new.row k c.args.cell = subst (λ (r : Row). CellSet r new.row k c.args.cell) c.item.ensures c.with_cell-item.ensures.cells in
-    let told = c.with_cell-item.ensures in
-    subst (λ (after : List Row). ItemSet (items_of rows) (items_of after) i (pair_of c.args.granter c.args.grantee) k c.args.cell) (sym c.put_back.ensures.rows)
-    (row_item_set rows i new.row inside c.args.granter c.args.grantee k c.args.cell p.gives p.gets p.bit p.item told.granter told.grantee new.valid cells)
+    let a = c.args in
+    let rows = a.self.now.rows in
+    let new = c.given_to-item.result in
+    let is = c.given_to-item.ensures in
+    let inside : a.i < length rows = omega (arith, a.self.now.sixteen, c.requires.item) in
+    let cells : CellSet (row_at rows a.i) new.row (bit a.privilege) a.cell = given_cells is (subst (λ (r : Row). CellSet r c.with_cell.result.row (bit a.privilege) a.cell) c.item.ensures c.with_cell.ensures) in
+    subst (λ (r : Row). ItemSet (items_of rows) (items_of (set rows a.i r)) a.i (pair_of a.pair.granter a.pair.grantee) (bit a.privilege) a.cell) (sym c.put_back.ensures)
+    (row_item_set rows a.i new.row inside a.pair (bit a.privilege) a.cell (bit_below a.privilege) c.requires.item (ap (λ (r : Row). r.granter) is) (ap (λ (r : Row). r.grantee) is) new.valid cells)

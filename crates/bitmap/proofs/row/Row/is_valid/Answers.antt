@@ -1,8 +1,10 @@
-use Rattle.std.proofs.Common.{sym, refl, ◌∙◌, arith, below_more}
+use Rattle.std.proofs.Common.{refl, rules, tests}
+use Rattle.std.proofs.lemmas.Iterator.{YieldsList-from_range}
+use Rattle.std.proofs.lemmas.Iterator.Search.{all_from_yields_List}
+use Rattle.bitmap.specs.Layout.{valid_at}
+use Rattle.bitmap.proofs.Lists.{all_range}
 use Rattle.bitmap.proofs.row.Row.is_valid.Goals as goal
 
-pub loop-k-preserved : goal.loop-k-preserved
-loop-k-preserved c = below_more _ _ c.loop-k.invariant (sym c.is_valid_at.ensures ∙ c.if-not-is_valid_at.false)
-
 pub returns : goal.returns
-returns c = (λ _. λ k lt. c.loop-k.invariant k (omega arith), λ _. refl)
+returns c =
+    all_range 32 (valid_at c.args.self.now) _ (all_from_yields_List (valid_at c.args.self.now) _ _ _ c.all.ensures.ran (YieldsList-from_range 0 32 32 refl refl) (λ x b q k. search (rules, tests)))

@@ -1,5 +1,5 @@
 use Rattle.std.proofs.Common.{◌≡◌, ◌+◌, refl, ◌∙◌, arith}
-use Rattle.bitmap.proofs.ItemLaws.{five_bits, upper_at}
+use Rattle.bitmap.proofs.ItemLaws.{five_bits, upper_at, bit_test}
 use Rattle.bitmap.proofs.row.Row.with_code.Goals as goal
 
 pub returns : goal.returns
@@ -13,7 +13,7 @@ returns c =
     let n = c.with_digit-5.ensures in
     record {
       here = omega (arith, five_bits c.args.code c.requires.code, b.others k (λ e. omega arith), a.same, t.same, s.same, d.same, n.same);
-      option_here = b.same;
+      option_here = bit_test c.args.option b.same;
       others = λ j p q. omega (arith, b.others j q, a.others j p, t.others j p, s.others j p, d.others j p, n.others j p);
       acl_others = λ j p q. b.others j q ∙ a.others j p;
       upper =

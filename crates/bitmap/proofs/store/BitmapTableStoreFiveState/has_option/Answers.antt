@@ -1,34 +1,22 @@
-use Rattle.std.proofs.Common.{ℕ, List, sym, ap, ◌∙◌, rules}
-use Rattle.std.proofs.lemmas.Bool.{and_parts, ltb-true}
-use Rattle.scales.specs.Five.{five}
+use Rattle.std.proofs.Common.{ℕ, sym, ap, ◌∙◌}
+use Rattle.std.proofs.lemmas.Bool.{and_parts}
 use Rattle.model.specs.Principals.{in_range, object_in_range}
-use Rattle.model.specs.Joining.{joining}
-use Rattle.model.specs.Folds.{any_below}
-use Rattle.model.specs.Places.{number}
-use Rattle.model.proofs.Outside.{answers_outside_lem}
-use Rattle.bitmap.specs.declared.row.Row.{Row}
-use Rattle.bitmap.specs.Items.{option_in}
-use Rattle.bitmap.specs.Tables.{items_of}
-use Rattle.bitmap.specs.Objects.{items_at, table_cells}
-use Rattle.bitmap.proofs.RowLaws.{five_lawful}
-use Rattle.bitmap.proofs.Telling.{tell_option, cells_outside}
-use Rattle.bitmap.proofs.TableLaws.{items_kept, rows_getD}
+use Rattle.model.specs.Privileges.{bit}
+use Rattle.std.specs.List.{list_any}
+use Rattle.bitmap.specs.Tables.{row_option}
+use Rattle.bitmap.proofs.TableLaws.{outside, option_told}
 use Rattle.bitmap.proofs.store.BitmapTableStoreFiveState.has_option.Goals as goal
 
-pub returns-then-not-is_grantee_in_range : goal.returns-then-not-is_grantee_in_range
-returns-then-not-is_grantee_in_range c =
-    let xs = c.args.self.now.objects in
-    sym ((answers_outside_lem five five_lawful (table_cells xs) (cells_outside five five_lawful (items_at xs))).no_option c.args.right.object c.args.right.privilege c.args.grantee (sym c.is_grantee_in_range.ensures ∙ c.if-not-is_grantee_in_range.true))
+pub returns-in_default : goal.returns-in_default
+returns-in_default c =
+    let a = c.args in
+    sym ((outside a.self.now.objects).no_option a.right.object a.right.privilege a.grantee (sym c.in_default.ensures.in_range))
 
 pub returns : goal.returns
 returns c =
-    let xs = c.args.self.now.objects in
-    let o = c.args.right.object in
-    let e = c.args.grantee in
-    let p = c.args.right.privilege in
-    let in- = and_parts (object_in_range o) (in_range e) (sym c.is_grantee_in_range.ensures ∙ c.if-not-is_grantee_in_range.false) in
+    let a = c.args in
+    let found = c.in-Some.ensures in
+    let there = and_parts (object_in_range a.right.object) (in_range a.grantee) (sym found.in_range) in
     c.has_option.ensures
-    ∙ ap (λ (rows : List Row). any_below 16 (option_in (joining five) (items_of rows) c.number.result c.bit.result)) (sym (rows_getD xs o _ (search rules)))
-    ∙ ap (λ (n : ℕ). any_below 16 (option_in (joining five) (items_at xs o) n c.bit.result)) c.number.ensures
-    ∙ ap (λ (k : ℕ). any_below 16 (option_in (joining five) (items_at xs o) (number e) k)) c.bit.ensures.value
-    ∙ sym (tell_option five five_lawful (items_at xs) o p e (ltb-true o 32 in-.0) in-.1 (items_kept xs o))
+    ∙ ap (λ (e : ℕ). list_any (row_option e (bit a.right.privilege)) c.in-Some.items.now.rows) found.grantee
+    ∙ option_told a.self.now.objects a.right.object there.0 c.in-Some.items.now.rows found.rows c.in-Some.items.now.sixteen a.grantee a.right.privilege there.1

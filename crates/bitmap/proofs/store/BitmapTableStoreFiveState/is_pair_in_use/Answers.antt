@@ -1,42 +1,30 @@
-use Rattle.std.proofs.Common.{◌<◌, ◌&&◌, length, sym, ◌∙◌, rules}
-use Rattle.std.proofs.lemmas.Bool.{and_parts, ltb-true}
-use Rattle.scales.specs.Five.{five}
+use Rattle.std.proofs.Common.{◌&&◌, is_some, ℕ, sym, ap, ◌∙◌}
+use Rattle.std.specs.List.{position}
+use Rattle.std.proofs.lemmas.Bool.{and_left, and_right}
 use Rattle.model.specs.Principals.{in_range, object_in_range}
-use Rattle.model.specs.Joining.{joining}
 use Rattle.model.specs.Places.{number}
-use Rattle.model.proofs.Counting.{any_some, any_none}
-use Rattle.model.proofs.Outside.{answers_outside_lem}
-use Rattle.bitmap.specs.Items.{is_item_of, pair_of}
-use Rattle.bitmap.specs.Objects.{items_at, table_cells}
-use Rattle.bitmap.proofs.RowLaws.{five_lawful}
-use Rattle.bitmap.proofs.Telling.{tell_used, cells_outside}
-use Rattle.bitmap.proofs.TableLaws.{item_read, pair_read}
+use Rattle.bitmap.specs.Tables.{row_is_of}
+use Rattle.bitmap.proofs.TableLaws.{outside, use_told}
 use Rattle.bitmap.proofs.store.BitmapTableStoreFiveState.is_pair_in_use.Goals as goal
 
-pub returns-then-not-is_pair_in_range : goal.returns-then-not-is_pair_in_range
-returns-then-not-is_pair_in_range c =
-    let xs = c.args.self.now.objects in
-    sym ((answers_outside_lem five five_lawful (table_cells xs) (cells_outside five five_lawful (items_at xs))).no_use c.args.object c.args.granter c.args.grantee (sym c.is_pair_in_range.ensures ∙ c.if-not-is_pair_in_range.true))
+pub returns-in_default : goal.returns-in_default
+returns-in_default c =
+    let a = c.args in
+    sym ((outside a.self.now.objects).no_use a.object a.granter a.grantee (and_right (object_in_range a.object) _ (sym c.in_default.ensures'.in_range)))
 
-pub returns-in-Some : goal.returns-in-Some
-returns-in-Some c =
-    let xs = c.args.self.now.objects in
-    let o = c.args.object in
-    let l = pair_of (number c.args.granter) (number c.args.grantee) in
-    let inside : o < length xs = search rules in
-    let ranges = and_parts (object_in_range o) (in_range c.args.granter && in_range c.args.grantee) (sym c.is_pair_in_range.ensures ∙ c.if-not-is_pair_in_range.false) in
-    let both = and_parts (in_range c.args.granter) (in_range c.args.grantee) ranges.1 in
-    let w = c.in-Some.ensures in
-    sym (tell_used five five_lawful (items_at xs) o c.args.granter c.args.grantee (ltb-true o 32 ranges.0) both.0 both.1
-    ∙ any_some 16 c.in-Some.field-0 (is_item_of (joining five) (items_at xs o) l) w.0 (item_read xs o c.index-self-object.result inside c.in-Some.field-0 (pair_read c.number.ensures c.number-2.ensures) ∙ w.1))
+pub returns-in_default-2 : goal.returns-in_default-2
+returns-in_default-2 c =
+    let a = c.args in
+    sym ((outside a.self.now.objects).no_use a.object a.granter a.grantee (and_left _ (in_range a.granter && in_range a.grantee) (sym c.in_default.ensures.in_range)))
 
-pub returns-in-None : goal.returns-in-None
-returns-in-None c =
-    let xs = c.args.self.now.objects in
-    let o = c.args.object in
-    let l = pair_of (number c.args.granter) (number c.args.grantee) in
-    let inside : o < length xs = search rules in
-    let ranges = and_parts (object_in_range o) (in_range c.args.granter && in_range c.args.grantee) (sym c.is_pair_in_range.ensures ∙ c.if-not-is_pair_in_range.false) in
-    let both = and_parts (in_range c.args.granter) (in_range c.args.grantee) ranges.1 in
-    sym (tell_used five five_lawful (items_at xs) o c.args.granter c.args.grantee (ltb-true o 32 ranges.0) both.0 both.1
-    ∙ any_none 16 (is_item_of (joining five) (items_at xs o) l) (λ i lt. item_read xs o c.index-self-object.result inside i (pair_read c.number.ensures c.number-2.ensures) ∙ c.in-None.ensures i lt))
+pub returns : goal.returns
+returns c =
+    let a = c.args in
+    let items = c.in-Some-Some.ensures in
+    let pair = c.in-Some-Some.ensures' in
+    let rows = c.in-Some-Some.items.now.rows in
+    c.is_some.ensures
+    ∙ ap is_some c.position.ensures
+    ∙ ap (λ (g : ℕ). is_some (position (row_is_of g c.in-Some-Some.pair.grantee) rows)) pair.granter
+    ∙ ap (λ (e : ℕ). is_some (position (row_is_of (number a.granter) e) rows)) pair.grantee
+    ∙ use_told a.self.now.objects a.object (sym items.in_range) rows items.rows c.in-Some-Some.items.now.sixteen a.granter a.grantee (sym pair.in_range)

@@ -1,0 +1,42 @@
+// The numbers of principals: users first, then roles.
+ghost use Rattle.std.specs.Prelude.{◌≡◌, ◌<◌, ◌&&◌, false, true, IfSome, is_some, MatchOption};
+ghost use Rattle.model.specs.Principals.{in_range};
+ghost use Rattle.model.specs.Places.{number as number_of};
+
+use model::principal::{Principal, ROLES, USERS};
+
+// The numbers of a granter and a grantee.
+#[derive(Clone, Copy)]
+pub struct Pair {
+    pub(crate) granter: u8,
+    pub(crate) grantee: u8,
+    ghost gives: { granter < 128 },
+    ghost gets: { grantee < 128 },
+}
+
+impl Pair {
+    // The pair of two principals, if there can be both.
+    pub(crate) fn of(granter: Principal, grantee: Principal) -> Option<Pair>
+        ensures in_range { is_some result ≡ (in_range granter && in_range grantee) }
+        ensures granter { IfSome result (λ pair. pair.granter ≡ number_of granter) }
+        ensures grantee { IfSome result (λ pair. pair.grantee ≡ number_of grantee) }
+    {
+        Some(Pair {
+            granter: number(granter)?,
+            grantee: number(grantee)?,
+        })
+    }
+}
+
+// The number of a principal, if there can be such a one.
+pub(crate) fn number(principal: Principal) -> Option<u8>
+    ensures in_range { is_some result ≡ in_range principal }
+    ensures value { IfSome result (λ n. n ≡ number_of principal) }
+    ensures below { IfSome result (λ n. n < 128) }
+{
+    match principal {
+        Principal::User(user) if user < USERS => Some(user),
+        Principal::Role(role) if role < ROLES => Some(USERS + role),
+        _ => None,
+    }
+}
