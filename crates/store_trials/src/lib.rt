@@ -5,6 +5,7 @@ ghost use Rattle.std.specs.Prelude.{◌≡◌, true};
 
 use model::cell::{Cell, Orientation};
 use model::place::Place;
+use model::right::Right;
 use model::scale::Scale;
 use model::store::Store;
 
@@ -44,7 +45,7 @@ pub fn write_all<S: Scale, A: Store<S>, B: Store<S>>(
 {
     let mut alike = true;
     for write in writes {
-        alike = write_both(a, b, write) & alike;
+        alike &= write_both(a, b, write);
     }
     alike
 }
@@ -69,9 +70,9 @@ pub fn tells_alike<S: Scale, A: Store<S>, B: Store<S>>(
     let pairs = a.pairs_in_use(object) == b.pairs_in_use(object);
     let used = a.is_pair_in_use(object, granter, grantee)
         == b.is_pair_in_use(object, granter, grantee);
-    let option = a.has_option(object, privilege, grantee)
-        == b.has_option(object, privilege, grantee);
-    let strongest = a.strongest(object, privilege, grantee, orientation);
-    let other = b.strongest(object, privilege, grantee, orientation);
+    let right = Right { object, privilege };
+    let option = a.has_option(right, grantee) == b.has_option(right, grantee);
+    let strongest = a.strongest(right, grantee, orientation);
+    let other = b.strongest(right, grantee, orientation);
     memory & pairs & used & option & strongest.same(other)
 }
