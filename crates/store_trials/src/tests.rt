@@ -15,6 +15,7 @@ use model::scale::Scale;
 use model::store::Store;
 use scales::five::FiveState;
 use scales::two::TwoState;
+use std::array;
 use std::process::Abort;
 use std::test::Fail;
 
@@ -150,11 +151,7 @@ fn write_number(n: u32) -> Write<FiveState>
 }
 
 fn table_of_writes() -> [Write<FiveState>; 400] {
-    let mut writes = [write_number(0); 400];
-    for (n, write) in writes.iter_mut().enumerate() {
-        *write = write_number(n as u32);
-    }
-    writes
+    array::from_fn(|n| write_number(n as u32))
 }
 
 // The table has accepted writes, and writes that are refused: for room, and for want of sense.
