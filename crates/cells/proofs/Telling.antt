@@ -22,8 +22,8 @@ use Rattle.model.proofs.JoinFolds.{same_joined}
 use Rattle.model.proofs.Numbering.{number_in, at_number, bit_below, at_bit, bit_same, principal_same, same_principals, place_eq}
 use Rattle.model.proofs.Outside.{towards_none, unassigned_none, unassigned_allowed, answers_outside_lem}
 use Rattle.cells.specs.declared.record.CellRecord.{CellRecord}
-use Rattle.cells.specs.Kept.{place_at, nowhere, is_of, used_in, pairs_in, first_at, Ranged, Distinct, Kept}
-use Rattle.cells.specs.Listed.{cell_of_record, record_of, cell_at, held, list_cells, is_for, option_by, state_by}
+use Rattle.cells.specs.Kept.{place_at, nowhere, is_of, used_in, pairs_in, first_at, Kept}
+use Rattle.cells.specs.Listed.{cell_of_record, record_of, cell_at, list_cells, is_for, option_by, state_by}
 use Rattle.cells.proofs.Records.{part_read, state_cell, record_allowed}
 use Rattle.cells.proofs.Found.{search_place, held_none, held_one}
 use Rattle.cells.proofs.PairCounts.{of_parts, of_from, range_parts, pairs_start}
@@ -42,80 +42,49 @@ for_parts a r e h =
 for_from : (a : Place) (r : Right) (g e : Principal) → a ≡ given r g e → is_for a r e ≡ true
 for_from a r g e h = and_from _ _ (eq-eqb a.object r.object (ap (λ (b : Place). b.object) h)) (and_from _ _ (same_principals a.grantee e (ap (λ (b : Place). b.grantee) h)) (eq-eqb (bit a.privilege) (bit r.privilege) (ap (λ (b : Place). bit b.privilege) h)))
 
-module _ {S : Type 0} (s : States S) (law : Lawful s) (at : ℕ → Place) (val : ℕ → Cell S) (n : ℕ) (single : Distinct at n) (ok : Ranged at n) where
+cell_allowed : {S : Type 0} (s : States S) (law : Lawful s) (xs : List (CellRecord S)) (i : ℕ) → Allowed s (cell_at s xs i)
+cell_allowed s law [] i = unassigned_allowed s law
+cell_allowed s law (x ∷ xs) zero = record_allowed s law x
+cell_allowed s law (x ∷ xs) (suc i) = cell_allowed s law xs i
+
+module _ {S : Type 0} (s : States S) (law : Lawful s) (xs : List (CellRecord S)) (n : ℕ) (kept : Kept s.unassign xs n) where
   laws : JoinLaws (joining s)
   laws = join_laws s law
 
   -- a question put to each granter is one put to each record
   module _ {A : Type 0} (C : Cell S → A) (z : A) (plain : C (unassigned s) ≡ z) (r : Right) (e : Principal) where
-    to_records : (k : ℕ) → k < 128 → (C (held s at val n (given r (principal_at k) e)) ≡ z) ⊎ ((i : ℕ) × (i < n) × (C (held s at val n (given r (principal_at k) e)) ≡ cond (is_for (at i) r e) (C (val i)) z))
+    to_records : (k : ℕ) → k < 128 → (C (list_cells s xs n (given r (principal_at k) e)) ≡ z) ⊎ ((i : ℕ) × (i < n) × (C (list_cells s xs n (given r (principal_at k) e)) ≡ cond (is_for (place_at xs i) r e) (C (cell_at s xs i)) z))
     to_records k lk =
         ⊎_elim
-        (λ w. inr (w.0, w.1, ap C (held_one s at val n single w.0 (given r (principal_at k) e) w.1 w.2) ∙ sym (cond-true (is_for (at w.0) r e) (C (val w.0)) z (for_from (at w.0) r (principal_at k) e w.2))))
-        (λ none. inl (ap C (held_none s at val n (given r (principal_at k) e) none) ∙ plain))
-        (search_place at n (given r (principal_at k) e))
+        (λ w. inr (w.0, w.1, ap C (held_one s (place_at xs) (cell_at s xs) n kept.distinct w.0 (given r (principal_at k) e) w.1 w.2) ∙ sym (cond-true (is_for (place_at xs w.0) r e) (C (cell_at s xs w.0)) z (for_from (place_at xs w.0) r (principal_at k) e w.2))))
+        (λ none. inl (ap C (held_none s (place_at xs) (cell_at s xs) n (given r (principal_at k) e) none) ∙ plain))
+        (search_place (place_at xs) n (given r (principal_at k) e))
 
-    from_records : (i : ℕ) → i < n → (cond (is_for (at i) r e) (C (val i)) z ≡ z) ⊎ ((k : ℕ) × (k < 128) × (cond (is_for (at i) r e) (C (val i)) z ≡ C (held s at val n (given r (principal_at k) e))))
+    from_records : (i : ℕ) → i < n → (cond (is_for (place_at xs i) r e) (C (cell_at s xs i)) z ≡ z) ⊎ ((k : ℕ) × (k < 128) × (cond (is_for (place_at xs i) r e) (C (cell_at s xs i)) z ≡ C (list_cells s xs n (given r (principal_at k) e))))
     from_records i lt =
         ⊎_elim
         (λ h.
-        let w = for_parts (at i) r e h in
-        let range = range_parts (at i) (ok i lt) in
-        let k = number (at i).granter in
-        inr (k, number_in (at i).granter range.1, cond-true (is_for (at i) r e) (C (val i)) z h ∙ sym (ap C (held_one s at val n single i (given r (principal_at k) e) lt (place_eq (at i) (given r (principal_at k) e) w.0 (sym (at_number (at i).granter range.1)) w.1 w.2)))))
-        (λ h. inl (cond-false (is_for (at i) r e) (C (val i)) z h))
-        (cases_Bool (is_for (at i) r e))
+        let w = for_parts (place_at xs i) r e h in
+        let range = range_parts (place_at xs i) (kept.ranged i lt) in
+        let k = number (place_at xs i).granter in
+        inr (k, number_in (place_at xs i).granter range.1, cond-true (is_for (place_at xs i) r e) (C (cell_at s xs i)) z h ∙ sym (ap C (held_one s (place_at xs) (cell_at s xs) n kept.distinct i (given r (principal_at k) e) lt (place_eq (place_at xs i) (given r (principal_at k) e) w.0 (sym (at_number (place_at xs i).granter range.1)) w.1 w.2)))))
+        (λ h. inl (cond-false (is_for (place_at xs i) r e) (C (cell_at s xs i)) z h))
+        (cases_Bool (is_for (place_at xs i) r e))
 
-  option_is : (r : Right) (e : Principal) → any_below n (λ i. option_by r e (at i) (val i)) ≡ has_option (held s at val n) r.object r.privilege e
+  option_is : (r : Right) (e : Principal) → any_below n (λ i. option_by r e (place_at xs i) (cell_at s xs i)) ≡ has_option (list_cells s xs n) r.object r.privilege e
   unfolding has_option
   option_is r e =
-      any_iff n 128 (λ i. option_by r e (at i) (val i)) (λ k. (held s at val n (given r (principal_at k) e)).option)
-      (λ i lt h. ⊎_elim (λ none. absurd (both_ways _ none h)) (λ w. any_some 128 w.0 (λ k. (held s at val n (given r (principal_at k) e)).option) w.1 (sym w.2 ∙ h)) (from_records (λ (c : Cell S). c.option) false refl r e i lt))
-      (λ k lk h. ⊎_elim (λ none. absurd (both_ways _ none h)) (λ w. any_some n w.0 (λ i. option_by r e (at i) (val i)) w.1 (sym w.2 ∙ h)) (to_records (λ (c : Cell S). c.option) false refl r e k lk))
+      any_iff n 128 (λ i. option_by r e (place_at xs i) (cell_at s xs i)) (λ k. (list_cells s xs n (given r (principal_at k) e)).option)
+      (λ i lt h. ⊎_elim (λ none. absurd (both_ways _ none h)) (λ w. any_some 128 w.0 (λ k. (list_cells s xs n (given r (principal_at k) e)).option) w.1 (sym w.2 ∙ h)) (from_records (λ (c : Cell S). c.option) false refl r e i lt))
+      (λ k lk h. ⊎_elim (λ none. absurd (both_ways _ none h)) (λ w. any_some n w.0 (λ i. option_by r e (place_at xs i) (cell_at s xs i)) w.1 (sym w.2 ∙ h)) (to_records (λ (c : Cell S). c.option) false refl r e k lk))
 
-  strongest_is : (r : Right) (e : Principal) (t : Orientation) → join_below (joining s) n (λ i. state_by (joining s) r e t (at i) (val i)) ≡ strongest (joining s) (held s at val n) r.object r.privilege e t
+  strongest_is : (r : Right) (e : Principal) (t : Orientation) → join_below (joining s) n (λ i. state_by (joining s) r e t (place_at xs i) (cell_at s xs i)) ≡ strongest (joining s) (list_cells s xs n) r.object r.privilege e t
   unfolding strongest
   strongest_is r e t =
-      same_joined (joining s) laws n 128 (λ i. state_by (joining s) r e t (at i) (val i)) (λ k. state_towards (joining s) t (held s at val n (given r (principal_at k) e)))
+      same_joined (joining s) laws n 128 (λ i. state_by (joining s) r e t (place_at xs i) (cell_at s xs i)) (λ k. state_towards (joining s) t (list_cells s xs n (given r (principal_at k) e)))
       (from_records (state_towards (joining s) t) s.unassign (towards_none (joining s) t (unassigned s) refl) r e)
       (to_records (state_towards (joining s) t) s.unassign (towards_none (joining s) t (unassigned s) refl) r e)
 
-  module _ (set- : (i : ℕ) → i < n → same s (val i).state s.unassign ≡ false) where
-    used_is : (o : ℕ) (g e : Principal) → used_in at n o g e ≡ in_use (joining s) (held s at val n) o g e
-    unfolding used_in in_use
-    used_is o g e =
-        any_iff n 8 (λ i. is_of (at i) o g e) (λ k. assigned (joining s) (held s at val n (place o g e (privilege_at k))).state)
-        (λ i lt h.
-        let w = of_parts (at i) o g e h in
-        let k = bit (at i).privilege in
-        any_some 8 k (λ q. assigned (joining s) (held s at val n (place o g e (privilege_at q))).state) (bit_below (at i).privilege)
-        (ap (λ (c : Cell S). assigned (joining s) c.state) (held_one s at val n single i (place o g e (privilege_at k)) lt (place_eq (at i) (place o g e (privilege_at k)) w.0 w.1 w.2 (sym (at_bit (at i).privilege)))) ∙ not_from_false _ (set- i lt)))
-        (λ k lk h. ⊎_elim
-        (λ w. any_some n w.0 (λ i. is_of (at i) o g e) w.1 (of_from (at w.0) o g e (ap (λ (b : Place). b.object) w.2) (ap (λ (b : Place). b.granter) w.2) (ap (λ (b : Place). b.grantee) w.2)))
-        (λ none. absurd (both_ways _ (ap (λ (c : Cell S). assigned (joining s) c.state) (held_none s at val n (place o g e (privilege_at k)) none) ∙ unassigned_none (joining s) laws) h))
-        (search_place at n (place o g e (privilege_at k))))
-
-    pairs_is : (o : ℕ) → pairs_in at n o ≡ pairs (joining s) (held s at val n) o
-    unfolding pairs_in pairs
-    pairs_is o = count_same 16384 (λ k. used_in at n o (principal_at (k / 128)) (principal_at (k % 128))) (λ k. in_use (joining s) (held s at val n) o (principal_at (k / 128)) (principal_at (k % 128))) (λ k lt. used_is o (principal_at (k / 128)) (principal_at (k % 128)))
-
-  -- out of range there is no record
-  outside_is : (p : Place) → place_in_range p ≡ false → held s at val n p ≡ unassigned s
-  outside_is p out = held_none s at val n p (λ i lt e. both_ways (place_in_range p) out (ap place_in_range (sym e) ∙ ok i lt))
-
-  allowed_is : ((i : ℕ) → Allowed s (val i)) → (p : Place) → Allowed s (held s at val n p)
-  allowed_is fine p =
-      ⊎_elim
-      (λ w. subst (Allowed s) (sym (held_one s at val n single w.0 p w.1 w.2)) (fine w.0))
-      (λ none. subst (Allowed s) (sym (held_none s at val n p none)) (unassigned_allowed s law))
-      (search_place at n p)
-
-cells_allowed : {S : Type 0} (s : States S) (law : Lawful s) (xs : List (CellRecord S)) (i : ℕ) → Allowed s (cell_at s xs i)
-cells_allowed s law [] i = unassigned_allowed s law
-cells_allowed s law (x ∷ xs) zero = record_allowed s law x
-cells_allowed s law (x ∷ xs) (suc i) = cells_allowed s law xs i
-
-module _ {S : Type 0} (s : States S) (law : Lawful s) (xs : List (CellRecord S)) (n : ℕ) (kept : Kept s.unassign xs n) where
   set_in : (i : ℕ) → i < n → same s (cell_at s xs i).state s.unassign ≡ false
   set_in i lt =
       ⊎_elim
@@ -124,10 +93,33 @@ module _ {S : Type 0} (s : States S) (law : Lawful s) (xs : List (CellRecord S))
       (cases_Bool (same s (cell_at s xs i).state s.unassign))
 
   pub used_told : (o : ℕ) (g e : Principal) → used_in (place_at xs) n o g e ≡ in_use (joining s) (list_cells s xs n) o g e
-  used_told = used_is s law (place_at xs) (cell_at s xs) n kept.distinct kept.ranged set_in
+  unfolding used_in in_use
+  used_told o g e =
+      any_iff n 8 (λ i. is_of (place_at xs i) o g e) (λ k. assigned (joining s) (list_cells s xs n (place o g e (privilege_at k))).state)
+      (λ i lt h.
+      let w = of_parts (place_at xs i) o g e h in
+      let k = bit (place_at xs i).privilege in
+      any_some 8 k (λ q. assigned (joining s) (list_cells s xs n (place o g e (privilege_at q))).state) (bit_below (place_at xs i).privilege)
+      (ap (λ (c : Cell S). assigned (joining s) c.state) (held_one s (place_at xs) (cell_at s xs) n kept.distinct i (place o g e (privilege_at k)) lt (place_eq (place_at xs i) (place o g e (privilege_at k)) w.0 w.1 w.2 (sym (at_bit (place_at xs i).privilege)))) ∙ not_from_false _ (set_in i lt)))
+      (λ k lk h. ⊎_elim
+      (λ w. any_some n w.0 (λ i. is_of (place_at xs i) o g e) w.1 (of_from (place_at xs w.0) o g e (ap (λ (b : Place). b.object) w.2) (ap (λ (b : Place). b.granter) w.2) (ap (λ (b : Place). b.grantee) w.2)))
+      (λ none. absurd (both_ways _ (ap (λ (c : Cell S). assigned (joining s) c.state) (held_none s (place_at xs) (cell_at s xs) n (place o g e (privilege_at k)) none) ∙ unassigned_none (joining s) laws) h))
+      (search_place (place_at xs) n (place o g e (privilege_at k))))
 
   pub pairs_told : (o : ℕ) → pairs_in (place_at xs) n o ≡ pairs (joining s) (list_cells s xs n) o
-  pairs_told = pairs_is s law (place_at xs) (cell_at s xs) n kept.distinct kept.ranged set_in
+  unfolding pairs_in pairs
+  pairs_told o = count_same 16384 (λ k. used_in (place_at xs) n o (principal_at (k / 128)) (principal_at (k % 128))) (λ k. in_use (joining s) (list_cells s xs n) o (principal_at (k / 128)) (principal_at (k % 128))) (λ k lt. used_told o (principal_at (k / 128)) (principal_at (k % 128)))
+
+  -- out of range there is no record
+  cells_outside : (p : Place) → place_in_range p ≡ false → list_cells s xs n p ≡ unassigned s
+  cells_outside p out = held_none s (place_at xs) (cell_at s xs) n p (λ i lt e. both_ways (place_in_range p) out (ap place_in_range (sym e) ∙ kept.ranged i lt))
+
+  cells_allowed : (p : Place) → Allowed s (list_cells s xs n p)
+  cells_allowed p =
+      ⊎_elim
+      (λ w. subst (Allowed s) (sym (held_one s (place_at xs) (cell_at s xs) n kept.distinct w.0 p w.1 w.2)) (cell_allowed s law xs w.0))
+      (λ none. subst (Allowed s) (sym (held_none s (place_at xs) (cell_at s xs) n p none)) (unassigned_allowed s law))
+      (search_place (place_at xs) n p)
 
   -- a record that stands nowhere
   nothing : CellRecord S
@@ -147,20 +139,17 @@ module _ {S : Type 0} (s : States S) (law : Lawful s) (xs : List (CellRecord S))
   tell_option r e =
       any_of_front xs nothing (λ x. option_by r e x.place (cell_of_record s x)) (λ i. option_by r e (place_at xs i) (cell_at s xs i)) n kept.within
       (λ i lt. ap (λ (a : Place). option_by r e a (cell_at s xs i)) (place_of xs nothing i (omega (arith, kept.within))) ∙ ap (option_by r e (get_or xs i nothing).place) (cell_of i lt))
-      ∙ option_is s law (place_at xs) (cell_at s xs) n kept.distinct kept.ranged r e
+      ∙ option_is r e
 
   pub tell_strongest : (r : Right) (e : Principal) (t : Orientation) → fold (λ x y. join s (state_by (joining s) r e t y.place (cell_of_record s y)) x) s.unassign (take n xs) ≡ strongest (joining s) (list_cells s xs n) r.object r.privilege e t
   tell_strongest r e t =
       join_of_front xs nothing s (λ y. state_by (joining s) r e t y.place (cell_of_record s y)) (λ i. state_by (joining s) r e t (place_at xs i) (cell_at s xs i)) n kept.within
       (λ i lt. ap (λ (a : Place). state_by (joining s) r e t a (cell_at s xs i)) (place_of xs nothing i (omega (arith, kept.within))) ∙ ap (state_by (joining s) r e t (get_or xs i nothing).place) (cell_of i lt))
-      ∙ strongest_is s law (place_at xs) (cell_at s xs) n kept.distinct kept.ranged r e t
-
-  cells_outside : (p : Place) → place_in_range p ≡ false → list_cells s xs n p ≡ unassigned s
-  cells_outside = outside_is s law (place_at xs) (cell_at s xs) n kept.distinct kept.ranged
+      ∙ strongest_is r e t
 
   pub list_sound : Sound s (list_cells s xs n)
   list_sound = record {
-    allowed = allowed_is s law (place_at xs) (cell_at s xs) n kept.distinct kept.ranged (cells_allowed s law xs);
+    allowed = cells_allowed;
     outside = cells_outside;
     room = λ o.
         ⊎_elim

@@ -6,46 +6,14 @@ ghost use Rattle.model.specs.Joining.{joining};
 ghost use Rattle.model.specs.Places.{same_place};
 ghost use Rattle.model.specs.States.{join as join_of, same as same_of};
 ghost use Rattle.cells.specs.Kept.{place_at, is_of, first_at};
-ghost use Rattle.cells.specs.Listed.{cell_of_record, record_of, is_for as is_for_of, option_by, state_by};
+ghost use Rattle.cells.specs.Listed.{cell_of_record, is_for as is_for_of, option_by, state_by};
 
 use crate::record::{CellRecord, Pair};
-use model::cell::{Cell, Orientation};
+use model::cell::Orientation;
 use model::place::Place;
 use model::principal::Principal;
 use model::right::Right;
 use model::scale::Scale;
-
-impl<S: Scale> CellRecord<S> {
-    // The record of a cell at a place.
-    pub fn new(place: Place, cell: &Cell<S>) -> CellRecord<S>
-        ensures { result ≡ record_of place cell.now }
-    {
-        CellRecord {
-            place,
-            state: cell.state,
-            neutral: cell.orientation == Orientation::Neutral,
-            option: cell.option,
-        }
-    }
-
-    // The cell of a record, an allowed one whatever stands there.
-    pub fn cell(&self) -> Cell<S>
-        ensures { result ≡ cell_of_record S.Scale.states self.now }
-    {
-        let orientation = if self.state.travels_up() {
-            Orientation::Up
-        } else if self.neutral {
-            Orientation::Neutral
-        } else {
-            Orientation::Down
-        };
-        Cell {
-            state: self.state,
-            orientation,
-            option: self.option && self.state.same(S::granted()),
-        }
-    }
-}
 
 fn is_of_pair(place: Place, pair: Pair) -> bool
     ensures { result ≡ is_of place pair.object pair.granter pair.grantee }
