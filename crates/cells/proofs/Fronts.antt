@@ -1,20 +1,21 @@
 -- What the first n records of a list answer, from what each of them answers.
-use Rattle.std.proofs.Common.{◌≡◌, ℕ, zero, suc, ◌<◌, ◌≤◌, Bool, cond, not, ◌&&◌, ◌||◌, eqb, ltb, List, [], ◌∷◌, length, take, get_or, Some, None, fold, MatchOption, sym, refl, ap, ◌∙◌, subst, ⊎_elim, add-one, arith}
-use Rattle.std.specs.List.{list_any, position_or_len, position}
+use Rattle.std.proofs.Common.{◌≡◌, ℕ, zero, suc, ◌<◌, ◌≤◌, Bool, cond, not, ◌&&◌, ◌||◌, eqb, ltb, List, [], ◌∷◌, length, take, get_or, Some, None, count_by, fold, MatchOption, sym, refl, ap, ◌∙◌, subst, ⊎_elim, add-one, zero-add, arith}
+use Rattle.std.specs.List.{list_any, enumerate_from, position_or_len, position}
 use Rattle.std.proofs.Math.Bool.{or_comm}
 use Rattle.std.proofs.lemmas.Bool.{both_ways, cases_Bool, eqb-true, and_left, ltb-true, ltb-false}
-use Rattle.std.proofs.lemmas.List.{length-take-le, get_or-take}
+use Rattle.std.proofs.lemmas.List.{length-take-le, get_or-take, take_all}
+use Rattle.std.proofs.lemmas.List.FromFn.{length-enumerate_from, get_or-enumerate_from}
 use Rattle.std.proofs.lemmas.List.Folds.{list_any_more}
-use Rattle.std.proofs.lemmas.List.Sums.{fold_more, fails_before_first, passes_at_first}
+use Rattle.std.proofs.lemmas.List.Sums.{fold_more, count_by_more_yes, count_by_more_no, fails_before_first, passes_at_first}
 use Rattle.model.specs.States.{States, join}
 use Rattle.model.specs.Joining.{joining}
-use Rattle.model.specs.Folds.{any_below, count_below, join_below}
+use Rattle.model.specs.Folds.{one_if, any_below, count_below, join_below}
 use Rattle.model.specs.Places.{place_in_range, same_place}
 use Rattle.model.specs.declared.place.Place.{Place}
 use Rattle.model.specs.declared.principal.Principal.{Principal}
 use Rattle.model.proofs.Numbering.{same_true, true_same}
 use Rattle.cells.specs.declared.record.CellRecord.{CellRecord}
-use Rattle.cells.specs.Kept.{part_at, place_at, nowhere, is_of, used_in, pairs_in, first_at, Ranged}
+use Rattle.cells.specs.Kept.{part_at, place_at, nowhere, is_of, used_in, pairs_in, first_of, first_at, Ranged}
 use Rattle.cells.proofs.Records.{part_read}
 use Rattle.cells.proofs.PairCounts.{pairs_counted, pairs_same}
 
@@ -54,20 +55,45 @@ module _ {S : Type 0} (xs : List (CellRecord S)) (d : CellRecord S) where
   unfolding used_in
   used_of_front n o g e le = any_of_front (λ r. is_of r.place o g e) (λ i. is_of (place_at xs i) o g e) n le (λ i lt. ap (λ (a : Place). is_of a o g e) (place_of i (omega arith)))
 
-  -- the first of its pair at an object, by the records before it
-  pub first_of_front : (i o : ℕ) (a : Place) (before : List (CellRecord S)) → i < length xs → a ≡ (get_or xs i d).place → before ≡ take i xs → (eqb a.object o && not (list_any (λ r. is_of r.place a.object a.granter a.grantee) before)) ≡ first_at (place_at xs) o i
-  first_of_front i o a before lt e f =
-      ap (λ (ys : List (CellRecord S)). eqb a.object o && not (list_any (λ r. is_of r.place a.object a.granter a.grantee) ys)) f
-      ∙ same_object a.object o (λ x. not (list_any (λ r. is_of r.place x a.granter a.grantee) (take i xs)))
-      ∙ ap (λ (b : Bool). eqb a.object o && not b) (used_of_front i o a.granter a.grantee (omega arith))
-      ∙ ap (λ (b : Place). eqb b.object o && not (used_in (place_at xs) i o b.granter b.grantee)) (e ∙ sym (place_of i lt))
+  count_of : (p : ℕ × CellRecord S → Bool) (q : ℕ → Bool) (ys : List (ℕ × CellRecord S)) (e : ℕ × CellRecord S) (n : ℕ) → n ≤ length ys → ((i : ℕ) → i < n → p (get_or ys i e) ≡ q i) → count_by p (take n ys) ≡ count_below n q
+  unfolding count_below
+  count_of p q ys e zero le h = refl
+  count_of p q ys e (suc n) le h =
+      let rest : count_by p (take n ys) ≡ count_below n q = count_of p q ys e n (omega arith) (λ i lt. h i (omega arith)) in
+      let one : one_if (p (get_or ys n e)) ≡ one_if (q n) = ap one_if (h n (omega arith)) in
+      ap (λ (m : ℕ). count_by p (take m ys)) (sym (add-one n))
+      ∙ ⊎_elim
+      (λ yes. let is : one_if (p (get_or ys n e)) ≡ 1 = ap one_if yes in let more = count_by_more_yes p ys n e (omega arith) yes in omega arith)
+      (λ no. let is : one_if (p (get_or ys n e)) ≡ 0 = ap one_if no in let more = count_by_more_no p ys n e (omega arith) no in omega arith)
+      (cases_Bool (p (get_or ys n e)))
 
-  pub pairs_of_front : (n o : ℕ) → n ≤ length xs → Ranged (place_at xs) n → count_below (length (take n xs)) (first_at (place_at (take n xs)) o) ≡ pairs_in (place_at xs) n o
+  -- the first of its pair at an object, by the records before it
+  first_is : (i o : ℕ) → i < length xs → first_of xs o (i, (get_or xs i d).place) ≡ first_at (place_at xs) o i
+  first_is i o lt =
+      let a : Place = (get_or xs i d).place in
+      same_object a.object o (λ x. not (list_any (λ r. is_of r.place x a.granter a.grantee) (take i xs)))
+      ∙ ap (λ (b : Bool). eqb a.object o && not b) (used_of_front i o a.granter a.grantee (omega arith))
+      ∙ ap (λ (b : Place). eqb b.object o && not (used_in (place_at xs) i o b.granter b.grantee)) (sym (place_of i lt))
+
+  pub pairs_counted_in : (o : ℕ) → Ranged (place_at xs) (length xs) → count_by (λ p. first_of xs o (p.0, p.1.place)) (enumerate_from 0 xs) ≡ pairs_in (place_at xs) (length xs) o
+  pairs_counted_in o ok =
+      let ys : List (ℕ × CellRecord S) = enumerate_from 0 xs in
+      let test : ℕ × CellRecord S → Bool = λ p. first_of xs o (p.0, p.1.place) in
+      let long : length ys ≡ length xs = length-enumerate_from 0 xs in
+      let read : (i : ℕ) → i < length ys → test (get_or ys i (0, d)) ≡ first_at (place_at xs) o i =
+      λ i lt. ap test (get_or-enumerate_from 0 xs i (0, d) (omega arith)) ∙ ap (λ (k : ℕ). first_of xs o (k, (get_or xs i d).place)) (zero-add i) ∙ first_is i o (omega arith) in
+      ap (count_by test) (sym (take_all (length ys) ys (omega arith)))
+      ∙ count_of test (first_at (place_at xs) o) ys (0, d) (length ys) (omega arith) read
+      ∙ ap (λ (n : ℕ). count_below n (first_at (place_at xs) o)) long
+      ∙ sym (pairs_counted (place_at xs) (length xs) o ok)
+
+module _ {S : Type 0} (xs : List (CellRecord S)) (d : CellRecord S) where
+  pub pairs_of_front : (n o : ℕ) → n ≤ length xs → Ranged (place_at xs) n → count_by (λ p. first_of (take n xs) o (p.0, p.1.place)) (enumerate_from 0 (take n xs)) ≡ pairs_in (place_at xs) n o
   pairs_of_front n o le ok =
       let ys : List (CellRecord S) = take n xs in
       let long : length ys ≡ n = length-take-le n xs le in
       let same : (i : ℕ) → i < length ys → place_at ys i ≡ place_at xs i = λ i lt. part_take (λ r. r.place) nowhere xs n i (omega arith) in
-      sym (pairs_counted (place_at ys) (length ys) o (λ i lt. ap place_in_range (same i lt) ∙ ok i (omega arith)))
+      pairs_counted_in ys d o (λ i lt. ap place_in_range (same i lt) ∙ ok i (omega arith))
       ∙ pairs_same (place_at ys) (place_at xs) (length ys) o same
       ∙ ap (λ (m : ℕ). pairs_in (place_at xs) m o) long
 
@@ -79,7 +105,7 @@ module _ {S : Type 0} (xs : List (CellRecord S)) (d : CellRecord S) where
       let k : ℕ = position_or_len test ys in
       let long : length ys ≡ n = length-take-le n xs le in
       let read : (i : ℕ) → i < n → same_place (place_at xs i) p ≡ test (get_or ys i d) =
-      λ i lt. ap (λ (a : Place). same_place a p) (place_of i (omega arith)) ∙ ap test (sym (get_or-take n xs i d lt)) in
+      λ i lt. ap (λ (a : Place). same_place a p) (place_of xs d i (omega arith)) ∙ ap test (sym (get_or-take n xs i d lt)) in
       ⊎_elim
       (λ yes.
       let lt : k < length ys = ltb-true k (length ys) yes in

@@ -1,6 +1,6 @@
 -- What a list's records answer is what its cells answer.
-use Rattle.std.proofs.Common.{◌≡◌, ℕ, zero, suc, ◌/◌, ◌%◌, ◌<◌, true, false, cond, ◌&&◌, eqb, ◌⊎◌, List, [], ◌∷◌, length, take, get_or, fold, sym, refl, ap, ◌∙◌, subst, inl, inr, ⊎_elim, arith}
-use Rattle.std.specs.List.{list_any}
+use Rattle.std.proofs.Common.{◌≡◌, ℕ, zero, suc, ◌/◌, ◌%◌, ◌<◌, true, false, cond, ◌&&◌, eqb, ◌⊎◌, List, [], ◌∷◌, take, get_or, count_by, fold, sym, refl, ap, ◌∙◌, subst, inl, inr, ⊎_elim, arith}
+use Rattle.std.specs.List.{list_any, enumerate_from}
 use mathlib.Core.Path.{fun_ext}
 use Rattle.std.proofs.lemmas.Bool.{cases_Bool, eqb-true, eq-eqb, and_parts, and_from, both_ways, cond-true, cond-false, not_from_false, ltb-true}
 use Rattle.model.specs.Principals.{object_in_range}
@@ -8,7 +8,7 @@ use Rattle.model.specs.Privileges.{bit}
 use Rattle.model.specs.States.{States, Lawful, same, join}
 use Rattle.model.specs.Joining.{joining, JoinLaws}
 use Rattle.model.specs.Allowed.{Allowed, unassigned}
-use Rattle.model.specs.Folds.{count_below, any_below, join_below}
+use Rattle.model.specs.Folds.{any_below, join_below}
 use Rattle.model.specs.Places.{place, place_in_range, same_principal, principal_at, privilege_at, number}
 use Rattle.model.specs.Stores.{assigned, in_use, pairs, has_option, state_towards, strongest, no_cells, Sound}
 use Rattle.model.specs.declared.principal.Principal.{Principal}
@@ -22,7 +22,7 @@ use Rattle.model.proofs.JoinFolds.{same_joined}
 use Rattle.model.proofs.Numbering.{number_in, at_number, bit_below, at_bit, bit_same, principal_same, same_principals, place_eq}
 use Rattle.model.proofs.Outside.{towards_none, unassigned_none, unassigned_allowed, answers_outside_lem}
 use Rattle.cells.specs.declared.record.CellRecord.{CellRecord}
-use Rattle.cells.specs.Kept.{place_at, nowhere, is_of, used_in, pairs_in, first_at, Kept}
+use Rattle.cells.specs.Kept.{place_at, nowhere, is_of, used_in, pairs_in, first_of, Kept}
 use Rattle.cells.specs.Listed.{cell_of_record, record_of, cell_at, list_cells, is_for, option_by, state_by}
 use Rattle.cells.proofs.Records.{part_read, state_cell, record_allowed}
 use Rattle.cells.proofs.Found.{search_place, held_none, held_one}
@@ -132,7 +132,7 @@ module _ {S : Type 0} (s : States S) (law : Lawful s) (xs : List (CellRecord S))
   pub tell_used : (o : ℕ) (g e : Principal) → list_any (λ r. is_of r.place o g e) (take n xs) ≡ in_use (joining s) (list_cells s xs n) o g e
   tell_used o g e = used_of_front xs nothing n o g e kept.within ∙ used_told o g e
 
-  pub tell_pairs : (o : ℕ) → count_below (length (take n xs)) (first_at (place_at (take n xs)) o) ≡ pairs (joining s) (list_cells s xs n) o
+  pub tell_pairs : (o : ℕ) → count_by (λ p. first_of (take n xs) o (p.0, p.1.place)) (enumerate_from 0 (take n xs)) ≡ pairs (joining s) (list_cells s xs n) o
   tell_pairs o = pairs_of_front xs nothing n o kept.within kept.ranged ∙ pairs_told o
 
   pub tell_option : (r : Right) (e : Principal) → list_any (λ x. option_by r e x.place (cell_of_record s x)) (take n xs) ≡ has_option (list_cells s xs n) r.object r.privilege e

@@ -1,11 +1,10 @@
 // What a slice of records answers.
-ghost use Rattle.std.specs.Prelude.{◌≡◌, not, ◌&&◌, ◌==◌, length, fold, position};
-ghost use Rattle.std.specs.List.{list_any};
-ghost use Rattle.model.specs.Folds.{count_below};
+ghost use Rattle.std.specs.Prelude.{◌≡◌, count_by, fold, position, take};
+ghost use Rattle.std.specs.List.{list_any, enumerate_from};
 ghost use Rattle.model.specs.Joining.{joining};
 ghost use Rattle.model.specs.Places.{same_place};
 ghost use Rattle.model.specs.States.{join as join_of, same as same_of};
-ghost use Rattle.cells.specs.Kept.{place_at, is_of, first_at};
+ghost use Rattle.cells.specs.Kept.{is_of, first_of};
 ghost use Rattle.cells.specs.Listed.{cell_of_record, is_for as is_for_of, option_by, state_by};
 
 use crate::record::{CellRecord, Pair};
@@ -44,24 +43,32 @@ pub(crate) fn is_pair_used<S: Scale>(records: &[CellRecord<S>], pair: Pair) -> b
     records.iter().any(|slot| is_of_pair(slot.place, pair))
 }
 
-// Whether a record at the object is the first of its pair, after those before it.
-fn is_first<S: Scale>(before: &[CellRecord<S>], place: Place, object: u8) -> bool
-    ensures { result ≡ (place.object == object && not (list_any (λ r. is_of r.place place.object place.granter place.grantee) before.now)) }
+// Whether a record before record i is of a pair.
+fn is_pair_before<S: Scale>(records: &[CellRecord<S>], i: usize, pair: Pair) -> bool
+    ensures { result ≡ list_any (λ r. is_of r.place pair.object pair.granter pair.grantee) (take i records.now) }
 {
-    place.object == object && !is_pair_used(before, Pair::of(place))
+    records
+        .iter()
+        .take(i)
+        .any(|slot| is_of_pair(slot.place, pair))
+}
+
+// Whether record i, at a place, is at the object and the first of its pair.
+fn is_first<S: Scale>(records: &[CellRecord<S>], i: usize, place: Place, object: u8) -> bool
+    ensures { result ≡ first_of records.now object (i, place) }
+{
+    place.object == object && !is_pair_before(records, i, Pair::of(place))
 }
 
 // How many pairs there are at an object.
 pub(crate) fn count_pairs<S: Scale>(records: &[CellRecord<S>], object: u8) -> usize
-    ensures { result ≡ count_below (length records.now) (first_at (place_at records.now) object) }
+    ensures { result ≡ count_by (λ p. first_of records.now object (p.0, p.1.place)) (enumerate_from 0 records.now) }
 {
-    let mut pairs = 0;
-    for (i, slot) in records.iter().enumerate() {
-        if is_first(&records[..i], slot.place, object) {
-            pairs += 1;
-        }
-    }
-    pairs
+    records
+        .iter()
+        .enumerate()
+        .filter(|(i, slot)| is_first(records, *i, slot.place, object))
+        .count()
 }
 
 fn option_of<S: Scale>(slot: &CellRecord<S>, right: Right, grantee: Principal) -> bool

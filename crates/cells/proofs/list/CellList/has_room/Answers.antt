@@ -1,10 +1,9 @@
-use Rattle.std.proofs.Common.{◌≡◌, ℕ, Bool, ◌||◌, ltb, List, length, ap, ◌∙◌}
-use Rattle.std.specs.List.{list_any}
+use Rattle.std.proofs.Common.{◌≡◌, ℕ, Bool, ◌||◌, ltb, List, count_by, ap, ◌∙◌}
+use Rattle.std.specs.List.{list_any, enumerate_from}
 use Rattle.model.specs.Allowed.{unassigned}
-use Rattle.model.specs.Folds.{count_below}
 use Rattle.cells.specs.declared.record.CellRecord.{CellRecord}
 use Rattle.cells.specs.declared.record.Pair.{Pair}
-use Rattle.cells.specs.Kept.{place_at, nowhere, is_of, used_in, pairs_in, first_at}
+use Rattle.cells.specs.Kept.{place_at, nowhere, is_of, used_in, pairs_in, first_of}
 use Rattle.cells.specs.Listed.{record_of}
 use Rattle.cells.proofs.Fronts.{used_of_front, pairs_of_front}
 use Rattle.cells.proofs.list.CellList.has_room.Goals as goal
@@ -22,7 +21,7 @@ returns g c =
     ∙ used_of_front xs d t.len p.object p.granter p.grantee t.kept.within in
     let pairs : c.count_pairs.result ≡ pairs_in (place_at xs) t.len p.object =
     c.count_pairs.ensures
-    ∙ ap (λ (ys : List (CellRecord g.row.S.Denot)). count_below (length ys) (first_at (place_at ys) p.object)) c.records-records.ensures
+    ∙ ap (λ (ys : List (CellRecord g.row.S.Denot)). count_by (λ q. first_of ys p.object (q.0, q.1.place)) (enumerate_from 0 ys)) c.records-records.ensures
     ∙ pairs_of_front xs d t.len p.object t.kept.within t.kept.ranged in
     c.pair_fits.ensures
     ∙ ap (λ (b : Bool). b || ltb c.count_pairs.result 16) used
