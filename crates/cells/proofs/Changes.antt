@@ -1,48 +1,57 @@
 -- A record that is written over, added at the end, or struck out.
-use Rattle.std.proofs.Common.{◌≡◌, ℕ, ◌+◌, ◌-◌, ◌<◌, ◌≤◌, true, false, cond, not, eqb, List, length, set, sym, refl, ap, ◌∙◌, subst, ⊎_elim, add-one, arith, length-set}
-use Rattle.std.proofs.lemmas.Bool.{cases_eq, cases_Bool, eqb-true, eq-eqb, ne_eqb, and_parts, cond-true, cond-false, not-true}
+use Rattle.std.proofs.Common.{◌≡◌, ℕ, ◌+◌, ◌-◌, ◌<◌, ◌≤◌, true, false, cond, not, eqb, ltb, Bool, ◌||◌, List, length, set, sym, refl, ap, ◌∙◌, subst, ⊎_elim, add-one, arith, length-set}
+use Rattle.std.proofs.lemmas.Bool.{cases_eq, cases_Bool, eqb-true, eq-eqb, ne_eqb, and_parts, cond-true, cond-false, not-true, both_ways, ltb-true}
 use Rattle.model.specs.States.{States, Lawful}
 use Rattle.model.specs.Allowed.{unassigned}
 use Rattle.model.specs.Folds.{one_if}
 use Rattle.model.specs.Places.{place_in_range}
-use Rattle.model.specs.Stores.{put}
+use Rattle.model.specs.Stores.{Cells, put}
 use Rattle.model.specs.declared.place.Place.{Place}
 use Rattle.model.specs.declared.cell.Cell.{Cell}
 use Rattle.model.proofs.Puts.{put_from}
 use Rattle.cells.specs.declared.record.CellRecord.{CellRecord}
 use Rattle.cells.specs.Kept.{place_at, state_at, nowhere, used_in, pairs_in, first_at, Assigned, Ranged, Distinct, Roomy, Kept}
 use Rattle.cells.specs.Listed.{cell_of_record, cell_at, list_cells}
+use Rattle.cells.specs.declared.list.CellList.{CellList}
+use Rattle.cells.specs.Lists.{Becomes}
 use Rattle.cells.proofs.Records.{part_same, part_other, state_cell}
 use Rattle.cells.proofs.Found.{held_none, held_one, held_kept}
 use Rattle.cells.proofs.PairCounts.{used_same, pairs_same, pairs_sub, pairs_step, range_parts}
 use Rattle.cells.proofs.Room.{fits_all}
 
--- the places after record i is set to a
-module _ (at at' : ℕ → Place) (n i : ℕ) (a : Place) (here : at' i ≡ a) (other : (j : ℕ) → (j ≡ i → ⊥) → at' j ≡ at j) (ok : Ranged at n) (single : Distinct at n) (room : Roomy at n) where
+-- the places of n records, and those after record i is set to a
+record Written (at at' : ℕ → Place) (n i : ℕ) (a : Place) : Type 0 where
+  here : at' i ≡ a
+  other : (j : ℕ) → (j ≡ i → ⊥) → at' j ≡ at j
+  ok : Ranged at n
+  single : Distinct at n
+  room : Roomy at n
+
+module _ {at at' : ℕ → Place} {n i : ℕ} {a : Place} (new : Written at at' n i a) where
   module _ (li : i < n) (was : at i ≡ a) where
-    pub over_at : (j : ℕ) → at' j ≡ at j
-    over_at j = ⊎_elim (λ e. ap at' e ∙ here ∙ sym was ∙ ap at (sym e)) (other j) (cases_eq j i)
+    over_at : (j : ℕ) → at' j ≡ at j
+    over_at j = ⊎_elim (λ e. ap at' e ∙ new.here ∙ sym was ∙ ap at (sym e)) (new.other j) (cases_eq j i)
 
-    pub over_ranged : Ranged at' n
-    over_ranged j lt = subst (λ (p : Place). place_in_range p ≡ true) (sym (over_at j)) (ok j lt)
+    over_ranged : Ranged at' n
+    over_ranged j lt = subst (λ (p : Place). place_in_range p ≡ true) (sym (over_at j)) (new.ok j lt)
 
-    pub over_distinct : Distinct at' n
-    over_distinct j k w = single j k (record { first = w.first; second = w.second; same = sym (over_at j) ∙ w.same ∙ over_at k })
+    over_distinct : Distinct at' n
+    over_distinct j k w = new.single j k (record { first = w.first; second = w.second; same = sym (over_at j) ∙ w.same ∙ over_at k })
 
-    pub over_roomy : Roomy at' n
-    over_roomy o lo = omega (arith, room o lo, pairs_same at' at n o (λ j _. over_at j))
+    over_roomy : Roomy at' n
+    over_roomy o lo = omega (arith, new.room o lo, pairs_same at' at n o (λ j _. over_at j))
 
   module _ (end : i ≡ n) (inside : place_in_range a ≡ true) (absent : (j : ℕ) → j < n → at j ≡ a → ⊥) (free : used_in at n a.object a.granter a.grantee ≡ false → pairs_in at n a.object < 16) where
-    pub add_at : (j : ℕ) → j < n → at' j ≡ at j
-    add_at j lt = other j (λ e. omega arith)
+    add_at : (j : ℕ) → j < n → at' j ≡ at j
+    add_at j lt = new.other j (λ e. omega arith)
 
-    pub add_here : at' n ≡ a
-    add_here = ap at' (sym end) ∙ here
+    add_here : at' n ≡ a
+    add_here = ap at' (sym end) ∙ new.here
 
-    pub add_ranged : Ranged at' (n + 1)
-    add_ranged j lt = ⊎_elim (λ e. subst (λ (p : Place). place_in_range p ≡ true) (sym (ap at' e ∙ add_here)) inside) (λ ne. subst (λ (p : Place). place_in_range p ≡ true) (sym (add_at j (omega arith))) (ok j (omega arith))) (cases_eq j n)
+    add_ranged : Ranged at' (n + 1)
+    add_ranged j lt = ⊎_elim (λ e. subst (λ (p : Place). place_in_range p ≡ true) (sym (ap at' e ∙ add_here)) inside) (λ ne. subst (λ (p : Place). place_in_range p ≡ true) (sym (add_at j (omega arith))) (new.ok j (omega arith))) (cases_eq j n)
 
-    pub add_distinct : Distinct at' (n + 1)
+    add_distinct : Distinct at' (n + 1)
     add_distinct j k w =
         let lj = w.first in
         let lk = w.second in
@@ -53,11 +62,11 @@ module _ (at at' : ℕ → Place) (n i : ℕ) (a : Place) (here : at' i ≡ a) (
         (cases_eq k n))
         (λ nj. let l : j < n = omega arith in ⊎_elim
         (λ ek. absurd (absent j l (sym (add_at j l) ∙ w.same ∙ ap at' ek ∙ add_here)))
-        (λ nk. let m : k < n = omega arith in single j k (record { first = l; second = m; same = sym (add_at j l) ∙ w.same ∙ add_at k m }))
+        (λ nk. let m : k < n = omega arith in new.single j k (record { first = l; second = m; same = sym (add_at j l) ∙ w.same ∙ add_at k m }))
         (cases_eq k n))
         (cases_eq j n)
 
-    pub add_roomy : Roomy at' (n + 1)
+    add_roomy : Roomy at' (n + 1)
     add_roomy o lo =
         let inside' : place_in_range (at' n) ≡ true = subst (λ (p : Place). place_in_range p ≡ true) (sym add_here) inside in
         let parts = range_parts (at' n) inside' in
@@ -77,22 +86,22 @@ module _ (at at' : ℕ → Place) (n i : ℕ) (a : Place) (here : at' i ≡ a) (
         let at_o : pairs_in at n a.object ≡ pairs_in at n o = ap (pairs_in at n) is in
         let one : one_if (first_at at' o n) ≡ 1 = ap one_if first in
         omega arith)
-        (λ rest. let none : one_if (first_at at' o n) ≡ 0 = ap one_if rest in omega (arith, room o lo))
+        (λ rest. let none : one_if (first_at at' o n) ≡ 0 = ap one_if rest in omega (arith, new.room o lo))
         (cases_Bool (first_at at' o n))
 
 -- the places after record i is set to the last one, which no longer counts
-module _ (at at' : ℕ → Place) (n i : ℕ) (li : i < n) (here : at' i ≡ at (n - 1)) (other : (j : ℕ) → (j ≡ i → ⊥) → at' j ≡ at j) (ok : Ranged at n) (single : Distinct at n) (room : Roomy at n) where
-  pub strike_from : (k : ℕ) → k < n - 1 → (j : ℕ) × (j < n) × (at' k ≡ at j) × (j ≡ i → ⊥)
+module _ {at at' : ℕ → Place} {n i : ℕ} (li : i < n) (new : Written at at' n i (at (n - 1))) where
+  strike_from : (k : ℕ) → k < n - 1 → (j : ℕ) × (j < n) × (at' k ≡ at j) × (j ≡ i → ⊥)
   strike_from k lt =
       ⊎_elim
-      (λ e. (n - 1, omega arith, ap at' e ∙ here, λ f. omega arith))
-      (λ ne. (k, omega arith, other k ne, ne))
+      (λ e. (n - 1, omega arith, ap at' e ∙ new.here, λ f. omega arith))
+      (λ ne. (k, omega arith, new.other k ne, ne))
       (cases_eq k i)
 
-  pub strike_ranged : Ranged at' (n - 1)
-  strike_ranged k lt = let w = strike_from k lt in subst (λ (p : Place). place_in_range p ≡ true) (sym w.2) (ok w.0 w.1)
+  strike_ranged : Ranged at' (n - 1)
+  strike_ranged k lt = let w = strike_from k lt in subst (λ (p : Place). place_in_range p ≡ true) (sym w.2) (new.ok w.0 w.1)
 
-  pub strike_distinct : Distinct at' (n - 1)
+  strike_distinct : Distinct at' (n - 1)
   strike_distinct j k w =
       let lj = w.first in
       let lk = w.second in
@@ -100,16 +109,16 @@ module _ (at at' : ℕ → Place) (n i : ℕ) (li : i < n) (here : at' i ≡ at 
       ⊎_elim
       (λ ej. ⊎_elim
       (λ ek. ej ∙ sym ek)
-      (λ nk. let m : k < n = omega arith in let f = single k (n - 1) (record { first = m; second = last; same = sym (other k nk) ∙ sym w.same ∙ ap at' ej ∙ here }) in absurd (omega arith))
+      (λ nk. let m : k < n = omega arith in let f = new.single k (n - 1) (record { first = m; second = last; same = sym (new.other k nk) ∙ sym w.same ∙ ap at' ej ∙ new.here }) in absurd (omega arith))
       (cases_eq k i))
       (λ nj. let l : j < n = omega arith in ⊎_elim
-      (λ ek. let f = single j (n - 1) (record { first = l; second = last; same = sym (other j nj) ∙ w.same ∙ ap at' ek ∙ here }) in absurd (omega arith))
-      (λ nk. let m : k < n = omega arith in single j k (record { first = l; second = m; same = sym (other j nj) ∙ w.same ∙ other k nk }))
+      (λ ek. let f = new.single j (n - 1) (record { first = l; second = last; same = sym (new.other j nj) ∙ w.same ∙ ap at' ek ∙ new.here }) in absurd (omega arith))
+      (λ nk. let m : k < n = omega arith in new.single j k (record { first = l; second = m; same = sym (new.other j nj) ∙ w.same ∙ new.other k nk }))
       (cases_eq k i))
       (cases_eq j i)
 
-  pub strike_roomy : Roomy at' (n - 1)
-  strike_roomy o lo = omega (arith, room o lo, pairs_sub at' at (n - 1) n o (λ k lk. let w = strike_from k lk in (w.0, w.1, w.2)))
+  strike_roomy : Roomy at' (n - 1)
+  strike_roomy o lo = omega (arith, new.room o lo, pairs_sub at' at (n - 1) n o (λ k lk. let w = strike_from k lk in (w.0, w.1, w.2)))
 
 -- a write that is allowed finds a slot
 pub add_fits : (at : ℕ → Place) (n : ℕ) (a : Place) → Ranged at n → Distinct at n → Roomy at n → place_in_range a ≡ true → ((j : ℕ) → j < n → at j ≡ a → ⊥) → (used_in at n a.object a.granter a.grantee ≡ false → pairs_in at n a.object < 16) → n + 1 ≤ 4096
@@ -117,10 +126,8 @@ add_fits at n a ok single room inside absent free =
     let at' : ℕ → Place = λ j. cond (eqb j n) a (at j) in
     let here : at' n ≡ a = cond-true (eqb n n) a (at n) (eq-eqb n n refl) in
     let other : (j : ℕ) → (j ≡ n → ⊥) → at' j ≡ at j = λ j ne. cond-false (eqb j n) a (at j) (ne_eqb j n ne) in
-    fits_all at' (n + 1)
-    (add_ranged at at' n n a here other ok single room refl inside absent free)
-    (add_distinct at at' n n a here other ok single room refl inside absent free)
-    (add_roomy at at' n n a here other ok single room refl inside absent free)
+    let m : Written at at' n n a = record { here = here; other = other; ok = ok; single = single; room = room } in
+    fits_all at' (n + 1) (add_ranged m refl inside absent free) (add_distinct m refl inside absent free) (add_roomy m refl inside absent free)
 
 module _ {S : Type 0} (s : States S) (law : Lawful s) (u : S) (xs : List (CellRecord S)) (n : ℕ) (old : Kept u xs n) (i : ℕ) (r : CellRecord S) (li : i < length xs) where
   new_at : place_at (set xs i r) i ≡ r.place
@@ -128,6 +135,9 @@ module _ {S : Type 0} (s : States S) (law : Lawful s) (u : S) (xs : List (CellRe
 
   rest_at : (j : ℕ) → (j ≡ i → ⊥) → place_at (set xs i r) j ≡ place_at xs j
   rest_at j ne = part_other (λ x. x.place) nowhere xs i r j ne
+
+  moved : Written (place_at xs) (place_at (set xs i r)) n i r.place
+  moved = record { here = new_at; other = rest_at; ok = old.ranged; single = old.distinct; room = old.roomy }
 
   new_cell : cell_at s (set xs i r) i ≡ cell_of_record s r
   new_cell = part_same (cell_of_record s) (unassigned s) xs i r li
@@ -151,9 +161,9 @@ module _ {S : Type 0} (s : States S) (law : Lawful s) (u : S) (xs : List (CellRe
       replace_kept = record {
         within = omega (arith, old.within, same_length);
         assigned = assigned_set n new (λ j lt _. lt);
-        ranged = over_ranged (place_at xs) (place_at (set xs i r)) n i r.place new_at rest_at old.ranged old.distinct old.roomy ln was;
-        distinct = over_distinct (place_at xs) (place_at (set xs i r)) n i r.place new_at rest_at old.ranged old.distinct old.roomy ln was;
-        roomy = over_roomy (place_at xs) (place_at (set xs i r)) n i r.place new_at rest_at old.ranged old.distinct old.roomy ln was;
+        ranged = over_ranged moved ln was;
+        distinct = over_distinct moved ln was;
+        roomy = over_roomy moved ln was;
       }
 
       pub replace_cells : list_cells s (set xs i r) n ≡ put (list_cells s xs n) r.place (cell_of_record s r)
@@ -161,7 +171,7 @@ module _ {S : Type 0} (s : States S) (law : Lawful s) (u : S) (xs : List (CellRe
           put_from (list_cells s xs n) (list_cells s (set xs i r) n) r.place (cell_of_record s r)
           (held_one s (place_at (set xs i r)) (cell_at s (set xs i r)) n replace_kept.distinct i r.place ln new_at ∙ new_cell)
           (λ q else-.
-          let every = over_at (place_at xs) (place_at (set xs i r)) n i r.place new_at rest_at old.ranged old.distinct old.roomy ln was in
+          let every = over_at moved ln was in
           held_kept s (place_at xs) (place_at (set xs i r)) (cell_at s xs) (cell_at s (set xs i r)) n n old.distinct replace_kept.distinct q
           (λ j lj h. (j, lj, every j ∙ h, rest_cell j (λ e. else- (sym h ∙ ap (place_at xs) e ∙ was))))
           (λ k lk h. (k, lk, sym (every k) ∙ h)))
@@ -171,9 +181,9 @@ module _ {S : Type 0} (s : States S) (law : Lawful s) (u : S) (xs : List (CellRe
       add_kept = record {
         within = omega (arith, same_length);
         assigned = assigned_set (n + 1) new (λ j lt ne. let ne' : j ≡ n → ⊥ = λ f. ne (f ∙ sym end) in omega arith);
-        ranged = add_ranged (place_at xs) (place_at (set xs i r)) n i r.place new_at rest_at old.ranged old.distinct old.roomy end inside absent free;
-        distinct = add_distinct (place_at xs) (place_at (set xs i r)) n i r.place new_at rest_at old.ranged old.distinct old.roomy end inside absent free;
-        roomy = add_roomy (place_at xs) (place_at (set xs i r)) n i r.place new_at rest_at old.ranged old.distinct old.roomy end inside absent free;
+        ranged = add_ranged moved end inside absent free;
+        distinct = add_distinct moved end inside absent free;
+        roomy = add_roomy moved end inside absent free;
       }
 
       pub add_cells : list_cells s (set xs i r) (n + 1) ≡ put (list_cells s xs n) r.place (cell_of_record s r)
@@ -189,19 +199,22 @@ module _ {S : Type 0} (s : States S) (law : Lawful s) (u : S) (xs : List (CellRe
     strike_here : place_at (set xs i r) i ≡ place_at xs (n - 1)
     strike_here = new_at ∙ last
 
+    struck : Written (place_at xs) (place_at (set xs i r)) n i (place_at xs (n - 1))
+    struck = record { here = strike_here; other = rest_at; ok = old.ranged; single = old.distinct; room = old.roomy }
+
     within_last : n - 1 < length xs
     within_last = omega (arith, old.within)
 
     from : (k : ℕ) → k < n - 1 → (j : ℕ) × (j < n) × (place_at (set xs i r) k ≡ place_at xs j) × (j ≡ i → ⊥)
-    from = strike_from (place_at xs) (place_at (set xs i r)) n i ln strike_here rest_at old.ranged old.distinct old.roomy
+    from = strike_from ln struck
 
     pub strike_kept : Kept u (set xs i r) (n - 1)
     strike_kept = record {
       within = omega (arith, old.within, same_length);
       assigned = assigned_set (n - 1) (λ h. old.assigned (n - 1) (omega arith) (state_cell s u xs (n - 1) within_last ∙ ap (λ (c : Cell S). c.state) (sym last_cell) ∙ h)) (λ j lt _. omega arith);
-      ranged = strike_ranged (place_at xs) (place_at (set xs i r)) n i ln strike_here rest_at old.ranged old.distinct old.roomy;
-      distinct = strike_distinct (place_at xs) (place_at (set xs i r)) n i ln strike_here rest_at old.ranged old.distinct old.roomy;
-      roomy = strike_roomy (place_at xs) (place_at (set xs i r)) n i ln strike_here rest_at old.ranged old.distinct old.roomy;
+      ranged = strike_ranged ln struck;
+      distinct = strike_distinct ln struck;
+      roomy = strike_roomy ln struck;
     }
 
     pub strike_cells : (a : Place) → place_at xs i ≡ a → list_cells s (set xs i r) (n - 1) ≡ put (list_cells s xs n) a (unassigned s)
@@ -219,6 +232,14 @@ module _ {S : Type 0} (s : States S) (law : Lawful s) (u : S) (xs : List (CellRe
         (cases_eq j (n - 1)))
         (λ k lk h. let w = from k lk in (w.0, w.1, sym w.2 ∙ h)))
 
--- the same, read off a list and a count that are equal to those
-pub cells_to : {S : Type 0} (s : States S) {ys zs : List (CellRecord S)} {m k : ℕ} → ys ≡ zs → m ≡ k → list_cells s ys m ≡ list_cells s zs k
-cells_to {S} s {ys} {zs} {m} {k} e f = ap (λ (l : List (CellRecord S)). list_cells s l m) e ∙ ap (λ (j : ℕ). list_cells s zs j) f
+-- the same, read off the fields of a list
+pub becomes : {S : Type 0} {g : _} (s : States S) (old new : CellList S g) {cells : Cells S} (xs : List (CellRecord S)) (n : ℕ) → new.memory.now ≡ xs → new.len ≡ n → length xs ≡ length old.memory.now → list_cells s xs n ≡ cells → Becomes s old new cells
+becomes {S} s old new xs n e f long held = record {
+  holds = ap (λ (l : List (CellRecord S)). list_cells s l new.len) e ∙ ap (list_cells s xs) f ∙ held;
+  memory = ap length e ∙ long;
+}
+
+-- a pair that is not in use fits
+pub room_free : (used : Bool) (pairs : ℕ) → (used || ltb pairs 16) ≡ true → used ≡ false → pairs < 16
+room_free true pairs h e = absurd (both_ways true e refl)
+room_free false pairs h e = ltb-true pairs 16 h

@@ -1,12 +1,12 @@
 -- What the first n records hold at a place.
-use Rattle.std.proofs.Common.{◌≡◌, ℕ, zero, suc, ◌<◌, true, false, ◌⊎◌, Some, None, Option, sym, refl, ap, ◌∙◌, inl, inr, ⊎_elim, arith, MatchOption}
-use Rattle.std.proofs.lemmas.Bool.{cases_eq, both_ways, cond-true, cond-false}
+use Rattle.std.proofs.Common.{◌≡◌, ℕ, zero, suc, ◌<◌, ◌⊎◌, sym, refl, ap, ◌∙◌, inl, inr, ⊎_elim, arith}
+use Rattle.std.proofs.lemmas.Bool.{cases_eq, cond-true, cond-false}
 use Rattle.model.specs.States.{States}
 use Rattle.model.specs.Allowed.{unassigned}
 use Rattle.model.specs.Places.{same_place}
 use Rattle.model.specs.declared.place.Place.{Place}
 use Rattle.model.specs.declared.cell.Cell.{Cell}
-use Rattle.model.proofs.Numbering.{cases_place, same_true, true_same, differ_place}
+use Rattle.model.proofs.Numbering.{cases_place, true_same, differ_place}
 use Rattle.cells.specs.Kept.{Distinct}
 use Rattle.cells.specs.Listed.{held}
 
@@ -49,8 +49,3 @@ held_kept s at at' val val' n m single single' p there back =
     (λ w. let v = there w.0 w.1 w.2 in held_one s at' val' m single' v.0 p v.1 v.2 ∙ v.3 ∙ sym (held_one s at val n single w.0 p w.1 w.2))
     (λ none. held_none s at' val' m p (λ k lk h. let w = back k lk h in none w.0 w.1 w.2) ∙ sym (held_none s at val n p none))
     (search_place at n p)
-
--- a search by the test is one by the place
-pub search_found : (at : ℕ → Place) (n : ℕ) (p : Place) (o : Option ℕ) → MatchOption o ((i : ℕ) → i < n → same_place (at i) p ≡ false) (λ i. (i < n) × (same_place (at i) p ≡ true)) → MatchOption o ((i : ℕ) → i < n → at i ≡ p → ⊥) (λ i. (i < n) × (at i ≡ p))
-search_found at n p None none = λ i lt e. both_ways (same_place (at i) p) (none i lt) (true_same (at i) p e)
-search_found at n p (Some i) w = (w.0, same_true (at i) p w.1)

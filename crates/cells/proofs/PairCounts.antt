@@ -1,5 +1,5 @@
 -- Counting the pairs that a list's records have.
-use Rattle.std.proofs.Common.{◌≡◌, ℕ, zero, suc, ◌+◌, ◌*◌, ◌/◌, ◌%◌, ◌<◌, ◌≤◌, Bool, true, false, not, ◌&&◌, ◌||◌, eqb, sym, refl, ap, ◌∙◌, ⊎_elim, add-one, arith}
+use Rattle.std.proofs.Common.{◌≡◌, ℕ, zero, suc, ◌+◌, ◌*◌, ◌/◌, ◌%◌, ◌<◌, ◌≤◌, Bool, true, false, not, ◌&&◌, ◌||◌, eqb, sym, refl, ap, ◌∙◌, ⊎_elim, arith}
 use Rattle.std.proofs.lemmas.Bool.{cases_Bool, eqb-true, eq-eqb, and_parts, and_left, and_right, and_from, or_left, not_from_true, not_from_false, ltb-true}
 use Rattle.std.proofs.lemmas.Nat.{div-add-mod', mod_below, div_below}
 use Rattle.model.specs.Principals.{in_range, object_in_range}
@@ -125,13 +125,6 @@ pairs_sub at at' n m o h =
     let w = used_witness at n o (principal_at (k / 128)) (principal_at (k % 128)) own in
     let v = h w.0 w.1 in
     used_some at' m v.0 o (principal_at (k / 128)) (principal_at (k % 128)) v.1 (ap (λ (a : Place). is_of a o (principal_at (k / 128)) (principal_at (k % 128))) (sym v.2) ∙ w.2))
-
-pub used_nothing : (at : ℕ → Place) (o : ℕ) (g e : Principal) → used_in at 0 o g e ≡ false
-unfolding used_in
-used_nothing at o g e = any_none 0 (λ i. is_of (at i) o g e) (λ i lt. absurd (omega arith))
-
-pub used_next : (at : ℕ → Place) (n o : ℕ) (g e : Principal) → used_in at (n + 1) o g e ≡ (is_of (at n) o g e || used_in at n o g e)
-used_next at n o g e = ap (λ (m : ℕ). used_in at m o g e) (add-one n) ∙ used_more at n o g e
 
 -- a record's own pair is in use
 pub used_at : (at : ℕ → Place) (n i : ℕ) (a : Place) → i < n → at i ≡ a → used_in at n a.object a.granter a.grantee ≡ true

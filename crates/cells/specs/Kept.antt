@@ -1,5 +1,6 @@
 -- What the list keeps, at every scale: it speaks of places, and of a state that no record has.
-use Rattle.std.specs.Prelude.{◌≡◌, ℕ, zero, suc, ◌/◌, ◌%◌, ◌<◌, ◌≤◌, Bool, true, not, ◌&&◌, List, [], ◌∷◌, length, ◌==◌, ◌≢◌}
+use Rattle.std.specs.Prelude.{◌≡◌, ℕ, zero, suc, ◌/◌, ◌%◌, ◌<◌, ◌≤◌, Bool, true, not, ◌&&◌, List, [], ◌∷◌, length, take, ◌==◌, ◌≢◌}
+use Rattle.std.specs.List.{list_any}
 use Rattle.model.specs.Folds.{any_below, count_below}
 use Rattle.model.specs.Places.{place, place_in_range, same_principal, principal_at}
 use Rattle.model.specs.declared.principal.Principal.{Principal}
@@ -35,6 +36,10 @@ used_in at n o g e = any_below n (λ i. is_of (at i) o g e)
 unfoldable pub pairs_in : (ℕ → Place) → ℕ → ℕ → ℕ
 pairs_in at n o = count_below 16384 (λ k. used_in at n o (principal_at (k / 128)) (principal_at (k % 128)))
 
+-- whether record i, at place p, is at an object and no record before it is of its pair
+abbrev pub first_of : {S : Type 0} → List (CellRecord S) → ℕ → ℕ × Place → Bool
+first_of xs o (i, p) = p.object == o && not (list_any (λ r. is_of r.place p.object p.granter p.grantee) (take i xs))
+
 -- whether record i is the first of its pair, at an object
 abbrev pub first_at : (ℕ → Place) → ℕ → ℕ → Bool
 first_at at o i = (at i).object == o && not (used_in at i o (at i).granter (at i).grantee)
@@ -58,7 +63,7 @@ Distinct at n = (i j : ℕ) → Twice at n i j → i ≡ j
 abbrev pub Roomy : (ℕ → Place) → ℕ → Type 0
 Roomy at n = (o : ℕ) → o < 32 → pairs_in at n o ≤ 16
 
--- all that the list keeps
+-- all that the list keeps of the first n records of its memory, where no record has the state u
 pub record Kept {S : Type 0} (u : S) (xs : List (CellRecord S)) (n : ℕ) : Type 0 where
   pub within : n ≤ length xs
   pub assigned : Assigned u (state_at u xs) n

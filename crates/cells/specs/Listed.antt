@@ -1,5 +1,5 @@
 -- What the records of a list hold.
-use Rattle.std.specs.Prelude.{ℕ, zero, suc, Bool, true, false, cond, ◌&&◌, List, length, ◌==◌, nat_le}
+use Rattle.std.specs.Prelude.{ℕ, zero, suc, Bool, true, false, cond, ◌&&◌, List, ◌==◌}
 use Rattle.model.specs.States.{States, same}
 use Rattle.model.specs.Joining.{Joining}
 use Rattle.model.specs.Allowed.{unassigned}
@@ -7,7 +7,7 @@ use Rattle.model.specs.Privileges.{bit}
 use Rattle.model.specs.Places.{same_place, same_principal}
 use Rattle.model.specs.Stores.{Cells, state_towards}
 use Rattle.model.specs.declared.principal.Principal.{Principal}
-use Rattle.model.specs.declared.privilege.Privilege.{Privilege}
+use Rattle.model.specs.declared.right.Right.{Right}
 use Rattle.model.specs.declared.place.Place.{Place}
 use Rattle.model.specs.declared.cell.Cell.{Cell}
 use Rattle.model.specs.declared.cell.Orientation.{Orientation}
@@ -44,21 +44,13 @@ held s at val (suc n) p = cond (same_place (at n) p) (val n) (held s at val n p)
 abbrev pub list_cells : {S : Type 0} → States S → List (CellRecord S) → ℕ → Cells S
 list_cells s xs n = held s (place_at xs) (cell_at s xs) n
 
--- lent 4,096 records, and with the unassign of its scale
-abbrev pub ample : {S : Type 0} → States S → List (CellRecord S) → S → Bool
-ample s xs u = nat_le 4096 (length xs) && same s u s.unassign
-
--- how many records count: none without the full memory
-abbrev pub counted : {S : Type 0} → States S → List (CellRecord S) → S → ℕ → ℕ
-counted s xs u n = cond (ample s xs u) n 0
-
--- whether a place is of an object, a privilege and a grantee
-abbrev pub is_for : Place → ℕ → Privilege → Principal → Bool
-is_for a o p e = a.object == o && (same_principal a.grantee e && bit a.privilege == bit p)
+-- whether a place is of a right and a grantee
+abbrev pub is_for : Place → Right → Principal → Bool
+is_for a r e = a.object == r.object && (same_principal a.grantee e && bit a.privilege == bit r.privilege)
 
 -- what a record gives a grantee: its option, and its state in an orientation
-abbrev pub option_by : {S : Type 0} → ℕ → Privilege → Principal → Place → Cell S → Bool
-option_by o p e a c = cond (is_for a o p e) c.option false
+abbrev pub option_by : {S : Type 0} → Right → Principal → Place → Cell S → Bool
+option_by r e a c = cond (is_for a r e) c.option false
 
-abbrev pub state_by : {S : Type 0} → Joining S → ℕ → Privilege → Principal → Orientation → Place → Cell S → S
-state_by j o p e t a c = cond (is_for a o p e) (state_towards j t c) j.unassign
+abbrev pub state_by : {S : Type 0} → Joining S → Right → Principal → Orientation → Place → Cell S → S
+state_by j r e t a c = cond (is_for a r e) (state_towards j t c) j.unassign

@@ -1,18 +1,22 @@
-ghost use Rattle.std.specs.Prelude.{ℕ, ◌≤◌, length};
-ghost use Rattle.cells.specs.Kept.{place_at, state_at, Assigned, Ranged, Distinct, Roomy};
+ghost use Rattle.std.specs.Prelude.{◌≡◌, take};
+ghost use Rattle.cells.specs.Kept.{Kept};
 
 use crate::record::CellRecord;
+use model::scale::Scale;
 
 // The cell list, in memory that is lent to it: the first `len` records count.
 #[derive(Drop)]
-pub struct CellList<'a, S> {
-    pub(crate) records: &'a mut [CellRecord<S>],
+pub struct CellList<'a, S: Scale> {
+    pub(crate) memory: &'a mut [CellRecord<S>],
     pub(crate) len: usize,
-    // The scale's unassign, which no record has.
-    pub(crate) unassign: S,
-    ghost within: { len ≤ length records.now },
-    ghost assigned: { Assigned unassign (state_at unassign records.now) len },
-    ghost ranged: { Ranged (place_at records.now) len },
-    ghost distinct: { Distinct (place_at records.now) len },
-    ghost roomy: { Roomy (place_at records.now) len },
+    ghost kept: { Kept S.Scale.states.unassign memory.now len },
+}
+
+impl<'a, S: Scale> CellList<'a, S> {
+    // The records that count.
+    pub(crate) fn records(&self) -> &[CellRecord<S>]
+        ensures { result.now ≡ take self.now.len self.now.memory.now }
+    {
+        &self.memory[..self.len]
+    }
 }

@@ -1,15 +1,15 @@
 // The cell list as a store of any scale.
-ghost use Rattle.std.specs.Prelude.{◌≡◌, ◌≤◌, length, nat_le};
+ghost use Rattle.std.specs.Prelude.{◌≡◌, length, nat_le};
 ghost use Rattle.model.specs.Stores.{no_cells};
-ghost use Rattle.cells.specs.Listed.{list_cells, ample, counted};
+ghost use Rattle.cells.specs.Lists.{cells_of, is_ample as is_ample_of};
 
 use crate::list::CellList;
 use crate::reads::{count_pairs, has_option, is_pair_used, is_unassign, strongest};
-use crate::record::CellRecord;
+use crate::record::{CellRecord, Pair};
 use model::cell::{Cell, Orientation};
 use model::place::Place;
 use model::principal::Principal;
-use model::privilege::Privilege;
+use model::right::Right;
 use model::scale::Scale;
 use model::store::Store;
 
@@ -18,78 +18,52 @@ pub const RECORDS: usize = 4096;
 
 impl<'a, S: Scale> CellList<'a, S> {
     // A new list: unassign everywhere. It has its full memory if that is lent.
-    pub fn new(records: &'a mut [CellRecord<S>]) -> CellList<'a, S>
-        ensures memory { ample S.Scale.states result.records.now result.unassign ≡ nat_le 4096 (length records.old) }
-        ensures empty { list_cells S.Scale.states result.records.now (counted S.Scale.states result.records.now result.unassign result.len) ≡ no_cells S.Scale.states }
+    pub fn new(memory: &'a mut [CellRecord<S>]) -> CellList<'a, S>
+        ensures memory { is_ample_of result ≡ nat_le 4096 (length memory.old) }
+        ensures empty { cells_of S.Scale.states result ≡ no_cells S.Scale.states }
     {
-        CellList {
-            records,
-            len: 0,
-            unassign: S::unassign(),
-        }
+        CellList { memory, len: 0 }
     }
 
     fn is_ample(&self) -> bool
-        ensures { result ≡ ample S.Scale.states self.now.records.now self.now.unassign }
+        ensures { result ≡ is_ample_of self.now }
     {
-        RECORDS <= self.records.len() && is_unassign(self.unassign)
-    }
-
-    // How many records count: none without the full memory.
-    fn counted(&self) -> usize
-        ensures value { result ≡ counted S.Scale.states self.now.records.now self.now.unassign self.now.len }
-        ensures within { result ≤ length self.now.records.now }
-    {
-        if self.is_ample() { self.len } else { 0 }
+        RECORDS <= self.memory.len()
     }
 }
 
 impl<'a, S: Scale> Store<S> for CellList<'a, S> {
-    ghost cells = { λ t. list_cells S.Scale.states t.records.now (counted S.Scale.states t.records.now t.unassign t.len) };
+    ghost cells = { λ t. cells_of S.Scale.states t };
 
-    ghost full = { λ t. ample S.Scale.states t.records.now t.unassign };
+    ghost full = { λ t. is_ample_of t };
 
     fn has_full_memory(&self) -> bool {
         self.is_ample()
     }
 
     fn pairs_in_use(&self, object: u8) -> usize {
-        count_pairs(self.records, self.counted(), object)
+        count_pairs(self.records(), object)
     }
 
     fn is_pair_in_use(&self, object: u8, granter: Principal, grantee: Principal) -> bool {
-        is_pair_used(self.records, self.counted(), object, granter, grantee)
-    }
-
-    fn has_option(&self, object: u8, privilege: Privilege, grantee: Principal) -> bool {
-        has_option(self.records, self.counted(), object, privilege, grantee)
-    }
-
-    fn strongest(
-        &self,
-        object: u8,
-        privilege: Privilege,
-        grantee: Principal,
-        orientation: Orientation,
-    ) -> S {
-        strongest(
-            self.records,
-            self.counted(),
+        let pair = Pair {
             object,
-            privilege,
+            granter,
             grantee,
-            orientation,
-        )
+        };
+        is_pair_used(self.records(), pair)
+    }
+
+    fn has_option(&self, right: Right, grantee: Principal) -> bool {
+        has_option(self.records(), right, grantee)
+    }
+
+    fn strongest(&self, right: Right, grantee: Principal, orientation: Orientation) -> S {
+        strongest(self.records(), right, grantee, orientation)
     }
 
     fn write(&mut self, place: Place, cell: &Cell<S>) -> bool {
-        if !self.is_ample() {
-            return false;
-        }
-        if !place.is_in_range() {
-            return false;
-        }
-        if !cell.is_allowed() {
+        if !self.is_ample() || !place.is_in_range() || !cell.is_allowed() {
             return false;
         }
         if is_unassign(cell.state) {

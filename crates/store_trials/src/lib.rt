@@ -2,9 +2,11 @@
 #![tactic(auto)]
 
 ghost use Rattle.std.specs.Prelude.{◌≡◌, true};
+ghost use Rattle.store_trials.specs.Alike.{Alike};
 
 use model::cell::{Cell, Orientation};
 use model::place::Place;
+use model::right::Right;
 use model::scale::Scale;
 use model::store::Store;
 
@@ -25,8 +27,8 @@ pub fn write_both<S: Scale, A: Store<S>, B: Store<S>>(
     b: &mut B,
     write: &Write<S>,
 ) -> bool
-    ensures alike { A.Store.full a.old ≡ B.Store.full b.old → A.Store.cells a.old ≡ B.Store.cells b.old → result ≡ true }
-    ensures cells { A.Store.full a.old ≡ B.Store.full b.old → A.Store.cells a.old ≡ B.Store.cells b.old → A.Store.cells a.new ≡ B.Store.cells b.new }
+    ensures told { Alike A.Store B.Store a.old b.old → result ≡ true }
+    ensures after { Alike A.Store B.Store a.old b.old → Alike A.Store B.Store a.new b.new }
     ensures memory { A.Store.full a.old ≡ B.Store.full b.old → A.Store.full a.new ≡ B.Store.full b.new }
 {
     let told = a.write(write.place, &write.cell);
@@ -39,12 +41,12 @@ pub fn write_all<S: Scale, A: Store<S>, B: Store<S>>(
     b: &mut B,
     writes: &[Write<S>],
 ) -> bool
-    ensures alike { A.Store.full a.old ≡ B.Store.full b.old → A.Store.cells a.old ≡ B.Store.cells b.old → result ≡ true }
-    ensures cells { A.Store.full a.old ≡ B.Store.full b.old → A.Store.cells a.old ≡ B.Store.cells b.old → A.Store.cells a.new ≡ B.Store.cells b.new }
+    ensures told { Alike A.Store B.Store a.old b.old → result ≡ true }
+    ensures after { Alike A.Store B.Store a.old b.old → Alike A.Store B.Store a.new b.new }
 {
     let mut alike = true;
     for write in writes {
-        alike = write_both(a, b, write) & alike;
+        alike &= write_both(a, b, write);
     }
     alike
 }
@@ -57,7 +59,7 @@ pub fn tells_alike<S: Scale, A: Store<S>, B: Store<S>>(
     place: Place,
     orientation: Orientation,
 ) -> bool
-    ensures { A.Store.full a.now ≡ B.Store.full b.now → A.Store.cells a.now ≡ B.Store.cells b.now → result ≡ true }
+    ensures { Alike A.Store B.Store a.now b.now → result ≡ true }
 {
     let Place {
         object,
@@ -69,9 +71,9 @@ pub fn tells_alike<S: Scale, A: Store<S>, B: Store<S>>(
     let pairs = a.pairs_in_use(object) == b.pairs_in_use(object);
     let used = a.is_pair_in_use(object, granter, grantee)
         == b.is_pair_in_use(object, granter, grantee);
-    let option = a.has_option(object, privilege, grantee)
-        == b.has_option(object, privilege, grantee);
-    let strongest = a.strongest(object, privilege, grantee, orientation);
-    let other = b.strongest(object, privilege, grantee, orientation);
+    let right = Right { object, privilege };
+    let option = a.has_option(right, grantee) == b.has_option(right, grantee);
+    let strongest = a.strongest(right, grantee, orientation);
+    let other = b.strongest(right, grantee, orientation);
     memory & pairs & used & option & strongest.same(other)
 }

@@ -10,14 +10,27 @@ use model::cell::{Cell, Orientation};
 use model::place::Place;
 use model::principal::Principal;
 use model::privilege::Privilege;
+use model::right::Right;
 use model::scale::Scale;
 use model::store::Store;
 use scales::five::FiveState;
 use scales::two::TwoState;
+use std::array;
 use std::process::Abort;
 use std::test::Fail;
 
 const ORIENTATIONS: [Orientation; 3] = [Orientation::Up, Orientation::Down, Orientation::Neutral];
+
+const PRIVILEGES: [Privilege; 8] = [
+    Privilege::Read,
+    Privilege::Draw,
+    Privilege::Hint,
+    Privilege::Proof,
+    Privilege::Build,
+    Privilege::Export,
+    Privilege::Rename,
+    Privilege::Drop,
+];
 
 fn cell(state: FiveState, orientation: Orientation, option: bool) -> Cell<FiveState> {
     Cell {
@@ -33,6 +46,13 @@ fn place(granter: Principal) -> Place {
         granter,
         grantee: Principal::Role(5),
         privilege: Privilege::Hint,
+    }
+}
+
+fn right(privilege: Privilege) -> Right {
+    Right {
+        object: 3,
+        privilege,
     }
 }
 
@@ -55,8 +75,8 @@ fn room<S: Scale, T: Store<S>>(rt: &impl Abort, store: &mut T, granted: &Cell<S>
     assert!(rt; !store.is_pair_in_use(3, Principal::User(7), Principal::Role(5)));
     assert!(rt; store.write(place(Principal::User(16)), granted));
     assert!(rt; store.pairs_in_use(3) == 16);
-    assert!(rt; store.has_option(3, Privilege::Hint, Principal::Role(5)));
-    assert!(rt; !store.has_option(3, Privilege::Draw, Principal::Role(5)));
+    assert!(rt; store.has_option(right(Privilege::Hint), Principal::Role(5)));
+    assert!(rt; !store.has_option(right(Privilege::Draw), Principal::Role(5)));
     assert!(rt; !store.write(place(Principal::User(64)), granted));
 }
 
@@ -104,10 +124,7 @@ fn write_number(n: u32) -> Write<FiveState>
         Principal::Role(granter)
     };
     let grantee = Principal::Role((n * 11 % 5) as u8);
-    let privilege = match Privilege::from_bit((n * 5 % 8) as u8) {
-        Some(privilege) => privilege,
-        None => Privilege::Read,
-    };
+    let privilege = PRIVILEGES[(n * 5 % 8) as usize];
     let state = match n * 13 % 7 {
         0 => FiveState::Deny,
         1 => FiveState::Suspend,
@@ -134,11 +151,7 @@ fn write_number(n: u32) -> Write<FiveState>
 }
 
 fn table_of_writes() -> [Write<FiveState>; 400] {
-    let mut writes = [write_number(0); 400];
-    for n in 0..400usize {
-        writes[n] = write_number(n as u32);
-    }
-    writes
+    array::from_fn(|n| write_number(n as u32))
 }
 
 // The table has accepted writes, and writes that are refused: for room, and for want of sense.
@@ -190,18 +203,6 @@ fn row(code: u32, k: u8) -> Row
     }
 }
 
-fn same_row(a: Row, b: Row) -> bool {
-    (a.acl == b.acl)
-        & (a.taint == b.taint)
-        & (a.suspend == b.suspend)
-        & (a.deny == b.deny)
-        & (a.neut == b.neut)
-}
-
-fn same_cell(a: Cell<FiveState>, b: Cell<FiveState>) -> bool {
-    (a.state == b.state) & (a.orientation == b.orientation) & (a.option == b.option)
-}
-
 const TABLE: [(u32, FiveState, Orientation); 8] = [
     (0b00000, FiveState::Unassign, Orientation::Up),
     (0b10000, FiveState::Grant, Orientation::Up),
@@ -214,29 +215,17 @@ const TABLE: [(u32, FiveState, Orientation); 8] = [
 ];
 
 fn reads(row: Row, privilege: Privilege, listed: Cell<FiveState>) -> bool {
-    match Item::from_row(row) {
-        Some(item) => same_cell(item.cell_for(privilege), listed),
-        None => false,
-    }
+    Item::from_row(row).is_some_and(|item| item.cell_for(privilege) == listed)
 }
 
 fn writes(empty: Row, privilege: Privilege, listed: Cell<FiveState>, row: Row) -> bool {
-    let Some(item) = Item::from_row(empty) else {
-        return false;
-    };
-    match item.with(privilege, &listed) {
-        Some(made) => same_row(made.to_row(), row),
-        None => false,
-    }
+    Item::from_row(empty)
+        .and_then(|item| item.with(privilege, &listed))
+        .is_some_and(|made| made.to_row() == row)
 }
 
 fn is_listed(code: u32) -> bool {
-    for (listed, _, _) in TABLE {
-        if listed == code {
-            return true;
-        }
-    }
-    false
+    TABLE.iter().any(|(listed, _, _)| *listed == code)
 }
 
 // Bits to cell and cell to bits, for each of the eight privileges, and no other combination.

@@ -1,28 +1,23 @@
-use Rattle.std.proofs.Common.{◌+◌, ◌<◌, length, set, sym, refl, ap, ◌∙◌, subst, arith, length-set}
+use Rattle.std.proofs.Common.{◌+◌, ◌<◌, length, refl, ap, ◌∙◌, arith, length-set}
 use Rattle.model.specs.Stores.{put}
-use Rattle.cells.specs.declared.record.CellRecord.{CellRecord}
-use Rattle.cells.specs.Kept.{Kept, place_at}
+use Rattle.cells.specs.Kept.{place_at}
 use Rattle.cells.specs.Listed.{list_cells, record_of}
 use Rattle.cells.proofs.Records.{read_back}
-use Rattle.cells.proofs.Changes.{add_fits, add_kept, add_cells, cells_to}
+use Rattle.cells.proofs.Changes.{add_fits, add_kept, add_cells, becomes, room_free}
 use Rattle.cells.proofs.list.CellList.add.Goals as goal
 
-pub rewrite-requires : goal.rewrite-requires
-rewrite-requires g c =
-    let s = g.S.Scale.states in
-    let law = g.met.S.Scale.lawful in
+pub rewrite-requires-clause-inside : goal.rewrite-requires-clause-inside
+rewrite-requires-clause-inside g c =
     let t = c.args.self.now in
-    let p = c.args.place in
-    let kept : Kept t.unassign t.records.now t.len = record { within = t.within; assigned = t.assigned; ranged = t.ranged; distinct = t.distinct; roomy = t.roomy } in
-    let fits = add_fits (place_at t.records.now) t.len p t.ranged t.distinct t.roomy c.requires.inside c.requires.absent c.requires.room in
-    let inside : t.len < length t.records.now = omega (arith, c.requires.memory) in
-    let r : CellRecord g.row.S.Denot = record_of p c.args.cell.now in
-    let e = c.new-slot.ensures in
-    record {
-      inside = inside;
-      kept = subst (λ (x : CellRecord g.row.S.Denot). Kept t.unassign (set t.records.now t.len x) (t.len + 1)) (sym e)
-          (add_kept s law t.unassign t.records.now t.len kept t.len r inside c.requires.assigned refl c.requires.inside c.requires.absent c.requires.room);
-    }
+    omega (arith, c.requires.holdable.memory, add_fits (place_at t.memory.now) t.len c.args.place t.kept.ranged t.kept.distinct t.kept.roomy c.requires.holdable.inside c.requires.absent (room_free _ _ c.requires.room))
+
+pub rewrite-requires-clause-kept : goal.rewrite-requires-clause-kept
+rewrite-requires-clause-kept g c =
+    let s = g.S.Scale.states in
+    let t = c.args.self.now in
+    let can = c.requires.holdable in
+    rw c.new-slot.ensures
+    (add_kept s g.met.S.Scale.lawful s.unassign t.memory.now t.len t.kept t.len (record_of c.args.place c.args.cell.now) (rewrite-requires-clause-inside g c) can.assigned refl can.inside c.requires.absent (room_free _ _ c.requires.room))
 
 pub returns : goal.returns
 returns g c =
@@ -30,15 +25,10 @@ returns g c =
     let law = g.met.S.Scale.lawful in
     let t = c.args.self.now in
     let p = c.args.place in
-    let kept : Kept t.unassign t.records.now t.len = record { within = t.within; assigned = t.assigned; ranged = t.ranged; distinct = t.distinct; roomy = t.roomy } in
-    let fits = add_fits (place_at t.records.now) t.len p t.ranged t.distinct t.roomy c.requires.inside c.requires.absent c.requires.room in
-    let inside : t.len < length t.records.now = omega (arith, c.requires.memory) in
-    let r : CellRecord g.row.S.Denot = record_of p c.args.cell.now in
-    let e = c.new-slot.ensures in
-    record {
-      cells = cells_to s (c.rewrite.ensures.records ∙ ap (set t.records.now t.len) e) c.rewrite.ensures.count
-          ∙ add_cells s law t.unassign t.records.now t.len kept t.len r inside c.requires.assigned refl c.requires.inside c.requires.absent c.requires.room
-          ∙ ap (put (list_cells s t.records.now t.len) p) (read_back s law p c.args.cell.now c.requires.allowed);
-      memory = ap length c.rewrite.ensures.records ∙ simp length-set;
-      same = c.rewrite.ensures.same;
-    }
+    let can = c.requires.holdable in
+    let fits = add_fits (place_at t.memory.now) t.len p t.kept.ranged t.kept.distinct t.kept.roomy can.inside c.requires.absent (room_free _ _ c.requires.room) in
+    let inside : t.len < length t.memory.now = omega (arith, can.memory) in
+    becomes s t c.rewrite.new.self _ (t.len + 1) c.rewrite.ensures.memory c.rewrite.ensures.count (simp length-set)
+    (rw c.new-slot.ensures
+    (add_cells s law s.unassign t.memory.now t.len t.kept t.len (record_of p c.args.cell.now) inside can.assigned refl can.inside c.requires.absent (room_free _ _ c.requires.room)
+    ∙ ap (put (list_cells s t.memory.now t.len) p) (read_back s law p c.args.cell.now can.allowed)))

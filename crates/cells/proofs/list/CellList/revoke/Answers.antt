@@ -11,7 +11,6 @@ returns-in_default g c =
     let s = g.S.Scale.states in
     let t = c.args.self.now in
     record {
-      cells = put_idle (list_cells s t.records.now t.len) c.args.place (unassigned s) (held_none s (place_at t.records.now) (cell_at s t.records.now) t.len c.args.place c.in_default.ensures);
+      holds = put_idle (list_cells s t.memory.now t.len) c.args.place (unassigned s) (held_none s (place_at t.memory.now) (cell_at s t.memory.now) t.len c.args.place c.in_default.ensures);
       memory = refl;
-      same = refl;
     }

@@ -1,27 +1,30 @@
-use Rattle.std.proofs.Common.{◌<◌, length, ap, ◌∙◌, arith, length-set}
-use Rattle.cells.specs.Kept.{Kept}
-use Rattle.cells.proofs.Changes.{strike_kept, strike_cells, cells_to}
+use Rattle.std.proofs.Common.{◌-◌, ◌<◌, length, get_or, arith, length-set}
+use Rattle.model.specs.Allowed.{unassigned}
+use Rattle.cells.specs.declared.record.CellRecord.{CellRecord}
+use Rattle.cells.specs.Kept.{nowhere}
+use Rattle.cells.specs.Listed.{cell_of_record}
+use Rattle.cells.proofs.Records.{part_read}
+use Rattle.cells.proofs.Changes.{strike_kept, strike_cells, becomes}
 use Rattle.cells.proofs.list.CellList.strike.Goals as goal
 
-pub rewrite-requires : goal.rewrite-requires
-rewrite-requires g c =
+pub rewrite-requires-clause-kept : goal.rewrite-requires-clause-kept
+rewrite-requires-clause-kept g c =
+    let s = g.S.Scale.states in
     let t = c.args.self.now in
-    let kept : Kept t.unassign t.records.now t.len = record { within = t.within; assigned = t.assigned; ranged = t.ranged; distinct = t.distinct; roomy = t.roomy } in
-    let inside : c.args.i < length t.records.now = omega (arith, c.requires.counts, t.within) in
-    record {
-      inside = inside;
-      kept = strike_kept g.S.Scale.states g.met.S.Scale.lawful t.unassign t.records.now t.len kept c.args.i c.slot-slot.result inside c.requires.counts c.slot-slot.ensures.place c.slot-slot.ensures.cell;
-    }
+    let last : CellRecord g.row.S.Denot = get_or t.memory.now (t.len - 1) c.index-self-last.result in
+    let inside : t.len - 1 < length t.memory.now = omega (arith, c.requires.counts, t.kept.within) in
+    strike_kept s g.met.S.Scale.lawful s.unassign t.memory.now t.len t.kept c.args.i last (omega (arith, c.requires.counts, t.kept.within)) c.requires.counts
+    (part_read (λ r. r.place) nowhere t.memory.now (t.len - 1) c.index-self-last.result inside)
+    (part_read (cell_of_record s) (unassigned s) t.memory.now (t.len - 1) c.index-self-last.result inside)
 
 pub returns : goal.returns
 returns g c =
     let s = g.S.Scale.states in
     let t = c.args.self.now in
-    let kept : Kept t.unassign t.records.now t.len = record { within = t.within; assigned = t.assigned; ranged = t.ranged; distinct = t.distinct; roomy = t.roomy } in
-    let inside : c.args.i < length t.records.now = omega (arith, c.requires.counts, t.within) in
-    record {
-      cells = cells_to s c.rewrite.ensures.records c.rewrite.ensures.count
-          ∙ strike_cells s g.met.S.Scale.lawful t.unassign t.records.now t.len kept c.args.i c.slot-slot.result inside c.requires.counts c.slot-slot.ensures.place c.slot-slot.ensures.cell c.args.place c.requires.own;
-      memory = ap length c.rewrite.ensures.records ∙ simp length-set;
-      same = c.rewrite.ensures.same;
-    }
+    let last : CellRecord g.row.S.Denot = get_or t.memory.now (t.len - 1) c.index-self-last.result in
+    let inside : t.len - 1 < length t.memory.now = omega (arith, c.requires.counts, t.kept.within) in
+    becomes s t c.rewrite.new.self _ (t.len - 1) c.rewrite.ensures.memory c.rewrite.ensures.count (simp length-set)
+    (strike_cells s g.met.S.Scale.lawful s.unassign t.memory.now t.len t.kept c.args.i last (omega (arith, c.requires.counts, t.kept.within)) c.requires.counts
+    (part_read (λ r. r.place) nowhere t.memory.now (t.len - 1) c.index-self-last.result inside)
+    (part_read (cell_of_record s) (unassigned s) t.memory.now (t.len - 1) c.index-self-last.result inside)
+    c.args.place c.requires.own)

@@ -4,4 +4,4 @@ use Rattle.cells.proofs.store.CellListStore.sound.Goals as goal
 pub returns : goal.returns
 returns g c =
     let t = c.args.self.now in
-    list_sound g.S.Scale.states g.met.S.Scale.lawful t.unassign t.records.now t.len (record { within = t.within; assigned = t.assigned; ranged = t.ranged; distinct = t.distinct; roomy = t.roomy })
+    list_sound g.S.Scale.states g.met.S.Scale.lawful t.memory.now t.len t.kept

@@ -1,0 +1,119 @@
+-- What the first n records of a list answer, from what each of them answers.
+use Rattle.std.proofs.Common.{◌≡◌, ℕ, zero, suc, ◌<◌, ◌≤◌, Bool, cond, not, ◌&&◌, ◌||◌, eqb, ltb, List, [], ◌∷◌, length, take, get_or, Some, None, count_by, fold, MatchOption, sym, refl, ap, ◌∙◌, subst, ⊎_elim, add-one, zero-add, arith}
+use Rattle.std.specs.List.{list_any, enumerate_from, position_or_len, position}
+use Rattle.std.proofs.Math.Bool.{or_comm}
+use Rattle.std.proofs.lemmas.Bool.{both_ways, cases_Bool, eqb-true, and_left, ltb-true, ltb-false}
+use Rattle.std.proofs.lemmas.List.{length-take-le, get_or-take, take_all}
+use Rattle.std.proofs.lemmas.List.FromFn.{length-enumerate_from, get_or-enumerate_from}
+use Rattle.std.proofs.lemmas.List.Folds.{list_any_more}
+use Rattle.std.proofs.lemmas.List.Sums.{fold_more, count_by_more_yes, count_by_more_no, fails_before_first, passes_at_first}
+use Rattle.model.specs.States.{States, join}
+use Rattle.model.specs.Joining.{joining}
+use Rattle.model.specs.Folds.{one_if, any_below, count_below, join_below}
+use Rattle.model.specs.Places.{place_in_range, same_place}
+use Rattle.model.specs.declared.place.Place.{Place}
+use Rattle.model.specs.declared.principal.Principal.{Principal}
+use Rattle.model.proofs.Numbering.{same_true, true_same}
+use Rattle.cells.specs.declared.record.CellRecord.{CellRecord}
+use Rattle.cells.specs.Kept.{part_at, place_at, nowhere, is_of, used_in, pairs_in, first_of, first_at, Ranged}
+use Rattle.cells.proofs.Records.{part_read}
+use Rattle.cells.proofs.PairCounts.{pairs_counted, pairs_same}
+
+part_take : {S A : Type 0} (f : CellRecord S → A) (z : A) (xs : List (CellRecord S)) (n i : ℕ) → i < n → part_at f z (take n xs) i ≡ part_at f z xs i
+part_take f z xs zero i lt = absurd (omega arith)
+part_take f z [] (suc n) i lt = refl
+part_take f z (y ∷ ys) (suc n) zero lt = refl
+part_take f z (y ∷ ys) (suc n) (suc i) lt = part_take f z ys n i (omega arith)
+
+same_object : (m o : ℕ) (f : ℕ → Bool) → (eqb m o && f m) ≡ (eqb m o && f o)
+same_object m o f = ⊎_elim (λ h. ap (λ (x : ℕ). eqb m o && f x) (eqb-true m o h)) (λ h. and_left (eqb m o) (f m) h ∙ sym (and_left (eqb m o) (f o) h)) (cases_Bool (eqb m o))
+
+module _ {S : Type 0} (xs : List (CellRecord S)) (d : CellRecord S) where
+  pub place_of : (i : ℕ) → i < length xs → place_at xs i ≡ (get_or xs i d).place
+  place_of i lt = sym (part_read (λ r. r.place) nowhere xs i d lt)
+
+  pub any_of_front : (p : CellRecord S → Bool) (q : ℕ → Bool) (n : ℕ) → n ≤ length xs → ((i : ℕ) → i < n → q i ≡ p (get_or xs i d)) → list_any p (take n xs) ≡ any_below n q
+  unfolding any_below
+  any_of_front p q zero le h = refl
+  any_of_front p q (suc n) le h =
+      ap (λ (m : ℕ). list_any p (take m xs)) (sym (add-one n))
+      ∙ list_any_more p xs n d (omega arith)
+      ∙ or_comm (list_any p (take n xs)) (p (get_or xs n d))
+      ∙ ap (λ (b : Bool). b || list_any p (take n xs)) (sym (h n (omega arith)))
+      ∙ ap (λ (b : Bool). q n || b) (any_of_front p q n (omega arith) (λ i lt. h i (omega arith)))
+
+  pub join_of_front : (s : States S) (f : CellRecord S → S) (h : ℕ → S) (n : ℕ) → n ≤ length xs → ((i : ℕ) → i < n → h i ≡ f (get_or xs i d)) → fold (λ x r. join s (f r) x) s.unassign (take n xs) ≡ join_below (joining s) n h
+  unfolding join_below
+  join_of_front s f h zero le same = refl
+  join_of_front s f h (suc n) le same =
+      ap (λ (m : ℕ). fold (λ x r. join s (f r) x) s.unassign (take m xs)) (sym (add-one n))
+      ∙ fold_more (λ x r. join s (f r) x) s.unassign xs n d (omega arith)
+      ∙ ap (λ (y : S). join s y (fold (λ x r. join s (f r) x) s.unassign (take n xs))) (sym (same n (omega arith)))
+      ∙ ap (join s (h n)) (join_of_front s f h n (omega arith) (λ i lt. same i (omega arith)))
+
+  pub used_of_front : (n o : ℕ) (g e : Principal) → n ≤ length xs → list_any (λ r. is_of r.place o g e) (take n xs) ≡ used_in (place_at xs) n o g e
+  unfolding used_in
+  used_of_front n o g e le = any_of_front (λ r. is_of r.place o g e) (λ i. is_of (place_at xs i) o g e) n le (λ i lt. ap (λ (a : Place). is_of a o g e) (place_of i (omega arith)))
+
+  count_of : (p : ℕ × CellRecord S → Bool) (q : ℕ → Bool) (ys : List (ℕ × CellRecord S)) (e : ℕ × CellRecord S) (n : ℕ) → n ≤ length ys → ((i : ℕ) → i < n → p (get_or ys i e) ≡ q i) → count_by p (take n ys) ≡ count_below n q
+  unfolding count_below
+  count_of p q ys e zero le h = refl
+  count_of p q ys e (suc n) le h =
+      let rest : count_by p (take n ys) ≡ count_below n q = count_of p q ys e n (omega arith) (λ i lt. h i (omega arith)) in
+      let one : one_if (p (get_or ys n e)) ≡ one_if (q n) = ap one_if (h n (omega arith)) in
+      ap (λ (m : ℕ). count_by p (take m ys)) (sym (add-one n))
+      ∙ ⊎_elim
+      (λ yes. let is : one_if (p (get_or ys n e)) ≡ 1 = ap one_if yes in let more = count_by_more_yes p ys n e (omega arith) yes in omega arith)
+      (λ no. let is : one_if (p (get_or ys n e)) ≡ 0 = ap one_if no in let more = count_by_more_no p ys n e (omega arith) no in omega arith)
+      (cases_Bool (p (get_or ys n e)))
+
+  -- the first of its pair at an object, by the records before it
+  first_is : (i o : ℕ) → i < length xs → first_of xs o (i, (get_or xs i d).place) ≡ first_at (place_at xs) o i
+  first_is i o lt =
+      let a : Place = (get_or xs i d).place in
+      same_object a.object o (λ x. not (list_any (λ r. is_of r.place x a.granter a.grantee) (take i xs)))
+      ∙ ap (λ (b : Bool). eqb a.object o && not b) (used_of_front i o a.granter a.grantee (omega arith))
+      ∙ ap (λ (b : Place). eqb b.object o && not (used_in (place_at xs) i o b.granter b.grantee)) (sym (place_of i lt))
+
+  pub pairs_counted_in : (o : ℕ) → Ranged (place_at xs) (length xs) → count_by (λ p. first_of xs o (p.0, p.1.place)) (enumerate_from 0 xs) ≡ pairs_in (place_at xs) (length xs) o
+  pairs_counted_in o ok =
+      let ys : List (ℕ × CellRecord S) = enumerate_from 0 xs in
+      let test : ℕ × CellRecord S → Bool = λ p. first_of xs o (p.0, p.1.place) in
+      let long : length ys ≡ length xs = length-enumerate_from 0 xs in
+      let read : (i : ℕ) → i < length ys → test (get_or ys i (0, d)) ≡ first_at (place_at xs) o i =
+      λ i lt. ap test (get_or-enumerate_from 0 xs i (0, d) (omega arith)) ∙ ap (λ (k : ℕ). first_of xs o (k, (get_or xs i d).place)) (zero-add i) ∙ first_is i o (omega arith) in
+      ap (count_by test) (sym (take_all (length ys) ys (omega arith)))
+      ∙ count_of test (first_at (place_at xs) o) ys (0, d) (length ys) (omega arith) read
+      ∙ ap (λ (n : ℕ). count_below n (first_at (place_at xs) o)) long
+      ∙ sym (pairs_counted (place_at xs) (length xs) o ok)
+
+module _ {S : Type 0} (xs : List (CellRecord S)) (d : CellRecord S) where
+  pub pairs_of_front : (n o : ℕ) → n ≤ length xs → Ranged (place_at xs) n → count_by (λ p. first_of (take n xs) o (p.0, p.1.place)) (enumerate_from 0 (take n xs)) ≡ pairs_in (place_at xs) n o
+  pairs_of_front n o le ok =
+      let ys : List (CellRecord S) = take n xs in
+      let long : length ys ≡ n = length-take-le n xs le in
+      let same : (i : ℕ) → i < length ys → place_at ys i ≡ place_at xs i = λ i lt. part_take (λ r. r.place) nowhere xs n i (omega arith) in
+      pairs_counted_in ys d o (λ i lt. ap place_in_range (same i lt) ∙ ok i (omega arith))
+      ∙ pairs_same (place_at ys) (place_at xs) (length ys) o same
+      ∙ ap (λ (m : ℕ). pairs_in (place_at xs) m o) long
+
+  -- a place is found, or no record is of it
+  pub found_in_front : (n : ℕ) (p : Place) → n ≤ length xs → (A : Type 0) (Q : ℕ → Type 0) → (((i : ℕ) → i < n → place_at xs i ≡ p → ⊥) → A) → ((i : ℕ) → i < n → place_at xs i ≡ p → Q i) → MatchOption (position (λ r. same_place r.place p) (take n xs)) A Q
+  found_in_front n p le A Q none some =
+      let test : CellRecord S → Bool = λ r. same_place r.place p in
+      let ys : List (CellRecord S) = take n xs in
+      let k : ℕ = position_or_len test ys in
+      let long : length ys ≡ n = length-take-le n xs le in
+      let read : (i : ℕ) → i < n → same_place (place_at xs i) p ≡ test (get_or ys i d) =
+      λ i lt. ap (λ (a : Place). same_place a p) (place_of xs d i (omega arith)) ∙ ap test (sym (get_or-take n xs i d lt)) in
+      ⊎_elim
+      (λ yes.
+      let lt : k < length ys = ltb-true k (length ys) yes in
+      let below : k < n = omega arith in
+      subst (λ (b : Bool). MatchOption (cond b (Some k) None) A Q) (sym yes)
+      (some k below (same_true (place_at xs k) p (read k below ∙ passes_at_first test ys d lt))))
+      (λ no.
+      let past : length ys ≤ k = ltb-false k (length ys) no in
+      subst (λ (b : Bool). MatchOption (cond b (Some k) None) A Q) (sym no)
+      (none (λ i lt h. let below : i < k = omega arith in both_ways (same_place (place_at xs i) p) (read i lt ∙ fails_before_first test ys i d below) (true_same (place_at xs i) p h))))
+      (cases_Bool (ltb k (length ys)))
