@@ -10,6 +10,7 @@ use model::cell::Orientation;
 use model::graph::Graph;
 use model::principal::{Principal, ROLES};
 use model::privilege::Privilege;
+use model::right::Right;
 use model::scale::Scale;
 use model::store::Store;
 
@@ -24,7 +25,7 @@ fn towards<S: Scale, T: Store<S>>(
     ensures { Strongest S.Scale.states (Towards (T.cells store.now) object privilege principal orientation) result }
 {
     store.sound();
-    store.strongest(object, privilege, principal, orientation)
+    store.strongest(Right { object, privilege }, principal, orientation)
 }
 
 // All that was assigned to a principal itself.

@@ -7,6 +7,7 @@ use crate::directory::Directory;
 use model::graph::Graph;
 use model::principal::{Principal, ROLES};
 use model::privilege::Privilege;
+use model::right::Right;
 use model::scale::Scale;
 use model::store::Store;
 
@@ -20,7 +21,7 @@ fn is_optioned<S: Scale, T: Store<S>>(
     ensures { Decides result (Optioned (T.cells store.now) object privilege principal) }
 {
     store.sound();
-    store.has_option(object, privilege, principal)
+    store.has_option(Right { object, privilege }, principal)
 }
 
 // Whether a user gives as itself: it owns the object, or has an option.
