@@ -1,4 +1,4 @@
--- What `any` and `fold` give over a range, where of a call of the closure only a relation is known.
+-- What `any`, `find` and `fold` give over a range, where of a call of the closure only a relation is known.
 use Rattle.std.proofs.Common.{◌≡◌, ℕ, ◌+◌, ◌-◌, ◌<◌, ◌≤◌, Bool, true, false, List, [], ◌∷◌, length, get_or, Some, None, Option, MatchOption, Decides, sym, refl, subst, ap, arith}
 use Rattle.std.proofs.lemmas.Bool.{both_ways}
 use Rattle.std.proofs.lemmas.Iterator.{cases_from_any, YieldsList-from_range}
@@ -9,35 +9,31 @@ use Rattle.std.specs.Fn.{Called}
 use Rattle.std.specs.Iterator.{Yields, ChecksAny, FoldsItems, FoldTurn}
 use Rattle.std.specs.List.{range_with_len, AllWithin, HoldsAt, FoldsTo}
 use Rattle.std.specs.declared.ops.Range.{Range}
+use Rattle.access.specs.Giving.{IsLowest}
 use denote.Param.Members.{Mut}
 
--- `any` decides whether some number in the range passes
-pub any_decides : {F : Type 0} {g : Mut F (ℕ × Unit {0}) Bool} (s u : Range ℕ) (f : F) (r : Bool) (P : ℕ → Type 0) → ChecksAny nat_range_steps g s f r u → ((x : ℕ) (b : Bool) (q : F) → Called g f (x, tt) b q → (q ≡ f) × Decides b (P x)) → Decides r ((k : ℕ) × (s.start ≤ k) × (k < s.end) × P k)
-any_decides s u f r P ran each =
-    by r (cases_from_any u f r P (λ x. P x → ⊥) ran (YieldsList-from_range s.start s.end _ refl refl)
+-- `any` over 0..n decides whether some number passes, where only numbers below n pass
+pub any_decides : {F : Type 0} {g : Mut F (ℕ × Unit {0}) Bool} {n : ℕ} (u : Range ℕ) (f : F) (r : Bool) (P : ℕ → Type 0) → ((k : ℕ) → P k → k < n) → ChecksAny nat_range_steps g (record { start = 0; end = n }) f r u → ((x : ℕ) (b : Bool) (q : F) → Called g f (x, tt) b q → (q ≡ f) × Decides b (P x)) → Decides r ((k : ℕ) × P k)
+any_decides {n = n} u f r P low ran each =
+    by r (cases_from_any u f r P (λ x. P x → ⊥) ran (YieldsList-from_range 0 n n refl (omega arith))
     (λ x q h. (each x true q h).1.0 refl)
     (λ x q h. let e = each x false q h in (e.0, λ p. both_ways false refl (e.1.1 p))))
   where
     all : List ℕ
-    all = range_with_len s.start (s.end - s.start)
+    all = range_with_len 0 n
 
-    long : length all ≡ s.end - s.start
-    long = length-range_with_len s.start (s.end - s.start)
-
-    at : (k : ℕ) → k < s.end - s.start → get_or all k 0 ≡ s.start + k
-    at k lt = get_or-range_with_len s.start (s.end - s.start) k 0 lt
-
-    by : (b : Bool) → MatchBool b ((k : ℕ) × (k < length all) × HoldsAt P all k) (AllWithin (λ x. P x → ⊥) all 0 (length all)) → Decides b ((k : ℕ) × (s.start ≤ k) × (k < s.end) × P k)
-    by true h = ((λ e. let lt : h.0 < s.end - s.start = omega (arith, h.1, long) in (s.start + h.0, omega arith, omega arith, subst P (at h.0 lt) (h.2 0))), (λ w. refl))
+    by : (b : Bool) → MatchBool b ((k : ℕ) × (k < length all) × HoldsAt P all k) (AllWithin (λ x. P x → ⊥) all 0 (length all)) → Decides b ((k : ℕ) × P k)
+    by true h = ((λ e. (get_or all h.0 0, h.2 0)), (λ w. refl))
     by false h = (
       (λ e. absurd (both_ways false refl e)),
-      (λ w. let lt : w.0 - s.start < s.end - s.start = omega (arith, w.1, w.2) in
-          let e : get_or all (w.0 - s.start) 0 ≡ w.0 = omega (arith, at (w.0 - s.start) lt, w.1) in
-          absurd (h (w.0 - s.start) 0 (omega arith) (omega (arith, lt, long)) (subst P (sym e) w.3))),
+      (λ w.
+          let lt = low w.0 w.1 in
+          let here : get_or all w.0 0 ≡ w.0 = omega (arith, get_or-range_with_len 0 n w.0 0 lt) in
+          absurd (h w.0 0 (omega arith) (omega (arith, lt, length-range_with_len 0 n)) (subst P (sym here) w.1))),
     )
 
 -- the first number in 0..n that passes is the first of all, where only numbers below n pass
-pub first_below : {n : ℕ} (P : ℕ → Type 0) (r : Option ℕ) → ((k : ℕ) → P k → k < n) → MatchOption r ((k : ℕ) → 0 ≤ k → k < n → P k → ⊥) (λ i. (0 ≤ i) × (i < n) × P i × ((k : ℕ) → 0 ≤ k → k < i → P k → ⊥)) → MatchOption r ((k : ℕ) → P k → ⊥) (λ i. P i × ((k : ℕ) → k < i → P k → ⊥))
+pub first_below : {n : ℕ} (P : ℕ → Type 0) (r : Option ℕ) → ((k : ℕ) → P k → k < n) → MatchOption r ((k : ℕ) → 0 ≤ k → k < n → P k → ⊥) (λ i. (0 ≤ i) × (i < n) × P i × ((k : ℕ) → 0 ≤ k → k < i → P k → ⊥)) → IsLowest P r
 first_below P None low h = λ k p. h k (omega arith) (low k p) p
 first_below P (Some i) low h = (h.2, λ k lt. h.3 k (omega arith) lt)
 
@@ -58,4 +54,4 @@ fold_keeps {F} {C} {g} K f step s a r run m n from to le init = subst (λ k. K k
         let v = turns.0 in
         let next = step s.start a v.1 v.0 keeps (subst (λ k. Called g f (a, (k, tt)) v.1 v.0) one.1.1 (subst (λ k. Called g k (a, (x, tt)) v.1 v.0) same turns.1)) in
         subst (λ k. K k r) one.0
-          (go xs there.0 v.0 v.1 (omega (arith, one.0, one.1.0, one.1.2)) next.1 (subst (λ k. K k v.1) (sym one.1.2) next.0) there.2 turns.2)
+        (go xs there.0 v.0 v.1 (omega (arith, one.0, one.1.0, one.1.2)) next.1 (subst (λ k. K k v.1) (sym one.1.2) next.0) there.2 turns.2)

@@ -30,7 +30,7 @@ pub record Towards {S : Type 0} (cells : Cells S) (o : ℕ) (p : Privilege) (q :
   pub state : (cells (place o granter q p)).state ≡ s
   pub oriented : (cells (place o granter q p)).orientation ≡ t
 
--- whether what is oriented so at the role r comes to the principal q: up from a role that q reaches, down from one that q is under
+-- what is oriented so at the role r comes to the principal q: up if q reaches r, down if q is under r
 abbrev pub Carries : RoleGraph → Principal → ℕ → Orientation → Type 0
 Carries g q r Up = Reaches g q (Role r)
 Carries g q r Down = IsUnder g q r

@@ -13,7 +13,7 @@ use model::right::Right;
 use model::scale::Scale;
 use model::store::Store;
 
-impl<'a, T, G> Access<'a, T, G> {
+impl<T, G: Graph> Access<'_, T, G> {
     // What was assigned to a principal in one orientation.
     fn towards<S: Scale>(&self, right: Right, principal: Principal, orientation: Orientation) -> S
     where
@@ -38,8 +38,6 @@ impl<'a, T, G> Access<'a, T, G> {
 
     // Whether the principal is the role, or a user who holds it.
     fn acts_as(&self, principal: Principal, role: u8) -> bool
-    where
-        G: Graph,
         ensures { Decides result (ActsAs (G.meaning self.now.graph.now) principal role) }
     {
         match principal {
@@ -50,17 +48,14 @@ impl<'a, T, G> Access<'a, T, G> {
 
     // Whether the role is above one that the principal is or holds.
     fn is_under(&self, principal: Principal, role: u8) -> bool
-    where
-        G: Graph,
         ensures { Decides result (IsUnder (G.meaning self.now.graph.now) principal role) }
     {
         (0..ROLES).any(|held| self.acts_as(principal, held) && self.graph.is_above(role, held))
     }
 
-    // Whether what is oriented so at a role reaches a principal that may be another.
+    // Whether what is oriented so at a role comes to the principal: up from a role that it reaches,
+    // down from one that it is under.
     fn carries(&self, principal: Principal, role: u8, orientation: Orientation) -> bool
-    where
-        G: Graph,
         ensures { Decides result (Carries (G.meaning self.now.graph.now) principal role orientation) }
     {
         match orientation {
@@ -70,7 +65,7 @@ impl<'a, T, G> Access<'a, T, G> {
         }
     }
 
-    // What is oriented so at a role, if that reaches the principal. Where nothing is, reach is not
+    // What is oriented so at a role, if it comes to the principal. Where nothing is, reach is not
     // asked.
     fn carried<S: Scale>(
         &self,
@@ -81,7 +76,6 @@ impl<'a, T, G> Access<'a, T, G> {
     ) -> S
     where
         T: Store<S>,
-        G: Graph,
         ensures { Strongest S.Scale.states (Carried (G.meaning self.now.graph.now) (T.cells self.now.store.now) right.object right.privilege principal role orientation) result }
     {
         let state: S = self.towards(right, Principal::Role(role), orientation);
@@ -96,7 +90,6 @@ impl<'a, T, G> Access<'a, T, G> {
     fn inherited<S: Scale>(&self, right: Right, principal: Principal, role: u8) -> S
     where
         T: Store<S>,
-        G: Graph,
         ensures { Strongest S.Scale.states (Inherited (G.meaning self.now.graph.now) (T.cells self.now.store.now) right.object right.privilege principal role) result }
     {
         let up: S = self.carried(right, principal, role, Orientation::Up);
@@ -108,7 +101,6 @@ impl<'a, T, G> Access<'a, T, G> {
     fn from_role<S: Scale>(&self, right: Right, principal: Principal, role: u8) -> S
     where
         T: Store<S>,
-        G: Graph,
         ensures { Strongest S.Scale.states (From (G.meaning self.now.graph.now) (T.cells self.now.store.now) right.object right.privilege principal role) result }
     {
         if self.acts_as(principal, role) {
@@ -148,7 +140,6 @@ impl<'a, T, G> Access<'a, T, G> {
     fn with_role<S: Scale>(&self, right: Right, principal: Principal, best: S, role: u8) -> S
     where
         T: Store<S>,
-        G: Graph,
         ensures { Added S.Scale.states (From (G.meaning self.now.graph.now) (T.cells self.now.store.now) right.object right.privilege principal role) best result }
     {
         best.join(self.from_role(right, principal, role))
@@ -159,7 +150,6 @@ impl<'a, T, G> Access<'a, T, G> {
     pub fn answer<S: Scale>(&self, right: Right, principal: Principal) -> S
     where
         T: Store<S>,
-        G: Graph,
         ensures answer { IsAnswer S.Scale.states (G.meaning self.now.graph.now) (listed self.now.directory.now) (T.cells self.now.store.now) right.object right.privilege principal result }
         ensures only { (s : S) → IsAnswer S.Scale.states (G.meaning self.now.graph.now) (listed self.now.directory.now) (T.cells self.now.store.now) right.object right.privilege principal s → s ≡ result }
         ensures between { BetweenRoles S.Scale.states (G.meaning self.now.graph.now) (listed self.now.directory.now) (T.cells self.now.store.now) }

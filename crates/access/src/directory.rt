@@ -1,7 +1,7 @@
 // The type and the owner of each object, and how objects come into being.
 ghost use Rattle.std.specs.Prelude.{◌≡◌, length, List, Option, if◌then◌else◌, Decides};
+ghost use Rattle.access.specs.declared.master.Master.{Master};
 ghost use Rattle.access.specs.Masters.{listed, no_masters, takes_master, with_master, Owns};
-ghost use Rattle.access.specs.declared.master.Master.{Master as MasterOf};
 
 use crate::master::Master;
 use model::object::{OBJECTS, is_object};
@@ -15,7 +15,7 @@ pub struct Directory {
 
 // An entry for each object.
 impl Model for Directory {
-    ghost Value = { List (Option MasterOf) };
+    ghost Value = { List (Option Master) };
 
     ghost view = { λ d. d.entries };
 

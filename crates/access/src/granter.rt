@@ -1,7 +1,7 @@
 // As whom a user gives.
-ghost use Rattle.std.specs.Prelude.{◌≡◌, ℕ, ◌<◌, Decides, Option, MatchOption};
+ghost use Rattle.std.specs.Prelude.{◌≡◌, Decides, Option};
 ghost use Rattle.access.specs.Masters.{listed};
-ghost use Rattle.access.specs.Giving.{Optioned, InOwnRight, Through, GranterIs};
+ghost use Rattle.access.specs.Giving.{Optioned, InOwnRight, Through, IsLowest, GranterIs};
 
 use crate::access::Access;
 use model::graph::Graph;
@@ -10,7 +10,7 @@ use model::right::Right;
 use model::scale::Scale;
 use model::store::Store;
 
-impl<'a, T, G> Access<'a, T, G> {
+impl<T, G: Graph> Access<'_, T, G> {
     // Whether a principal has an option, from any granter.
     fn is_optioned<S: Scale>(&self, right: Right, principal: Principal) -> bool
     where
@@ -35,7 +35,6 @@ impl<'a, T, G> Access<'a, T, G> {
     fn gives_through<S: Scale>(&self, right: Right, user: u8, role: u8) -> bool
     where
         T: Store<S>,
-        G: Graph,
         ensures { Decides result (Through (G.meaning self.now.graph.now) (T.cells self.now.store.now) user right.object right.privilege role) }
     {
         let role = Principal::Role(role);
@@ -46,8 +45,7 @@ impl<'a, T, G> Access<'a, T, G> {
     fn lowest_role<S: Scale>(&self, right: Right, user: u8) -> Option<u8>
     where
         T: Store<S>,
-        G: Graph,
-        ensures { MatchOption result ((k : ℕ) → Through (G.meaning self.now.graph.now) (T.cells self.now.store.now) user right.object right.privilege k → ⊥) (λ k. Through (G.meaning self.now.graph.now) (T.cells self.now.store.now) user right.object right.privilege k × ((j : ℕ) → j < k → Through (G.meaning self.now.graph.now) (T.cells self.now.store.now) user right.object right.privilege j → ⊥)) }
+        ensures { IsLowest (Through (G.meaning self.now.graph.now) (T.cells self.now.store.now) user right.object right.privilege) result }
     {
         (0..ROLES).find(|role| self.gives_through(right, user, *role))
     }
@@ -57,7 +55,6 @@ impl<'a, T, G> Access<'a, T, G> {
     pub fn granter<S: Scale>(&self, right: Right, user: u8) -> Option<Principal>
     where
         T: Store<S>,
-        G: Graph,
         ensures answer { GranterIs (G.meaning self.now.graph.now) (listed self.now.directory.now) (T.cells self.now.store.now) user right.object right.privilege result }
         ensures only { (q : Option Principal) → GranterIs (G.meaning self.now.graph.now) (listed self.now.directory.now) (T.cells self.now.store.now) user right.object right.privilege q → q ≡ result }
     {

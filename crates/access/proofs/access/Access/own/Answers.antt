@@ -3,5 +3,4 @@ use Rattle.access.proofs.access.Access.own.Goals as goal
 
 pub returns : goal.returns
 returns g c =
-    in_any_orientation g.S.Scale.states g.met.S.Scale.lawful (g.T.Store.cells c.args.self.now.store.now) c.args.right.object c.args.right.privilege c.args.principal _ _ _ _ _
-    c.towards-up.ensures c.towards-down.ensures c.towards-neutral.ensures c.join.ensures.stronger c.join-2.ensures.stronger
+    in_any_orientation _ g.met.S.Scale.lawful _ _ _ _ _ _ _ _ _ c.towards-up.ensures c.towards-down.ensures c.towards-neutral.ensures c.join.ensures.stronger c.join-2.ensures.stronger
