@@ -2,7 +2,6 @@
 use Rattle.std.proofs.Common.{◌≡◌, ℕ, ◌+◌, ◌<◌, true, ◌⊎◌, sym, refl, subst, inl, inr, ⊎_elim, arith}
 use Rattle.std.proofs.lemmas.Bool.{cases_eq, lt-ltb}
 use Rattle.model.specs.States.{States, Lawful}
-use Rattle.model.specs.Joining.{Stronger}
 use Rattle.model.specs.Graphs.{RoleGraph, Chain, via, Reaches, Sound}
 use Rattle.model.specs.Places.{place}
 use Rattle.model.specs.Stores.{Cells}
@@ -12,8 +11,8 @@ use Rattle.model.specs.declared.privilege.Privilege.{Privilege}
 use Rattle.model.proofs.Chains.{first_link}
 use Rattle.model.proofs.SoundGraphs.{lower_in_range, upper_in_range}
 use Rattle.access.specs.Masters.{Masters}
-use Rattle.access.specs.Reaching.{Way, ReachesRole, Assigned, Reaching, Strongest, IsAnswer}
-use Rattle.access.specs.RoleByRole.{ActsAs, From, FromBelow, AsOwner, Apart, SoFar, Added}
+use Rattle.access.specs.Reaching.{Way, ReachesRole, Reaching, Strongest, IsAnswer}
+use Rattle.access.specs.RoleByRole.{ActsAs, From, FromBelow, Apart, SoFar, Added}
 use Rattle.access.proofs.StrongestOf.{strongest_same, strongest_of_both}
 
 module _ (g : RoleGraph) (sound : Sound g) where
@@ -23,7 +22,7 @@ module _ (g : RoleGraph) (sound : Sound g) where
   reaches_through (User u) at h = go (first_link h.chain)
     where
       go : (User u ≡ Role at) ⊎ ((r : ℕ) × (g.linked (User u) r ≡ true) × Chain g.linked (Role r) (Role at)) → (r : ℕ) × ActsAs g (User u) r × Reaches g (Role r) (Role at)
-      go (inl e) = let z : ◌≡◌ {A = ℕ} 0 1 = cc in absurd (omega arith)
+      go (inl e) = absurd (cc)
       go (inr f) =
           let low = lower_in_range g.level sound.roles_in_range (User u) f.0 (sound.falling (User u) f.0 f.1) in
           (f.0, f.1, record { from = lt-ltb f.0 64 low; to = h.to; chain = f.2 })
@@ -133,8 +132,3 @@ module _ {S : Type 0} (st : States S) (law : Lawful st) (g : RoleGraph) (masters
           (λ (e : h.role ≡ n). inr (subst (λ k. From g cells o p q k t) e h.from))
           (λ (ne : h.role ≡ n → ⊥). inl (inr (record { role = h.role; less = omega (arith, h.less); from = h.from })))
           (cases_eq h.role n)
-
--- a user's own cells, and what it has as the owner
-pub own_and_owned : {S : Type 0} (st : States S) → Lawful st → (masters : Masters) (cells : Cells S) (o : ℕ) (p : Privilege) (q : Principal) (u : ℕ) (a b r : S) → q ≡ User u → Strongest st (Assigned cells o p (User u)) a → Strongest st (AsOwner st masters o u) b → Stronger st a b r → Strongest st (Apart st masters cells o p q) r
-own_and_owned st law masters cells o p q u a b r e x y j =
-    subst (λ k. Strongest st (Apart st masters cells o p k) r) (sym e) (strongest_of_both st law (Assigned cells o p (User u)) (AsOwner st masters o u) a b r x y j)

@@ -1,3 +1,4 @@
+pub mod OverRange
 pub mod NewDirectory
 pub mod StrongestOf
 pub mod ReadCells

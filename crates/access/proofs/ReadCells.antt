@@ -20,13 +20,13 @@ use Rattle.access.proofs.StrongestOf.{OrUnassign, Among, strongest_as, strongest
 
 same_towards : (t u : Orientation) → same_orientation t u ≡ true → u ≡ t
 same_towards Up Up e = refl
-same_towards Up Down e = absurd (both_ways false refl e)
-same_towards Up Neutral e = absurd (both_ways false refl e)
-same_towards Down Up e = absurd (both_ways false refl e)
+same_towards Up Down e = absurd (cc)
+same_towards Up Neutral e = absurd (cc)
+same_towards Down Up e = absurd (cc)
 same_towards Down Down e = refl
-same_towards Down Neutral e = absurd (both_ways false refl e)
-same_towards Neutral Up e = absurd (both_ways false refl e)
-same_towards Neutral Down e = absurd (both_ways false refl e)
+same_towards Down Neutral e = absurd (cc)
+same_towards Neutral Up e = absurd (cc)
+same_towards Neutral Down e = absurd (cc)
 same_towards Neutral Neutral e = refl
 
 towards_same : (t : Orientation) → same_orientation t t ≡ true

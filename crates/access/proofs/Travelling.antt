@@ -1,5 +1,5 @@
 -- What travels between a role and one below it.
-use Rattle.std.proofs.Common.{◌≡◌, ℕ, Bool, true, false, ◌⊎◌, sym, refl, subst, inl, inr, ⊎_elim, arith}
+use Rattle.std.proofs.Common.{◌≡◌, ℕ, Bool, true, false, ◌⊎◌, sym, refl, subst, inl, inr, ⊎_elim}
 use Rattle.std.proofs.lemmas.Bool.{cases_eq, both_ways}
 use Rattle.model.specs.States.{States, Lawful}
 use Rattle.model.specs.Allowed.{Allowed}
@@ -17,9 +17,6 @@ use Rattle.access.specs.Masters.{Masters}
 use Rattle.access.specs.Reaching.{Way, ReachesRole, IsAnswer}
 use Rattle.access.specs.Between.{NoNeutral, Follows, BetweenRoles}
 
-not_both : {P : Type 0} (d : Orientation) → d ≡ Up → d ≡ Down → P
-not_both d x y = let z : ◌≡◌ {A = ℕ} 0 1 = cc in absurd (omega arith)
-
 above_through : (g : RoleGraph) (a b c : ℕ) → (a ≡ c → ⊥) → Above g a b → Above g b c → Above g a c
 above_through g a b c ne x y = record { differ = ne; reaches = record { from = x.reaches.from; to = y.reaches.to; chain = joined x.reaches.chain y.reaches.chain } }
 
@@ -34,7 +31,7 @@ module _ {S : Type 0} (st : States S) (law : Lawful st) (g : RoleGraph) (masters
   rises : (granter : Principal) (at : ℕ) → st.travels_up (cell granter at).state ≡ true → Way g b at (cell granter at) → Way g a at (cell granter at)
   rises granter at up (inl e) = inr (inl ((fits granter at).upward up, subst (Above g a) (sym e) above))
   rises granter at up (inr (inl h)) = ⊎_elim (λ e. inl (sym e)) (λ ne. inr (inl (h.0, above_through g a b at ne above h.1))) (cases_eq a at)
-  rises granter at up (inr (inr h)) = not_both _ ((fits granter at).upward up) h.0
+  rises granter at up (inr (inr h)) = let oriented = (fits granter at).upward up in absurd (cc (oriented, h.0))
 
   module _ (no_neutral : NoNeutral cells o p a) where
     sinks_there : (granter : Principal) (d : Orientation) → (cell granter a).orientation ≡ d → (d ≡ Up → ⊥) → (cell granter a).orientation ≡ Down

@@ -1,5 +1,5 @@
 -- As whom a user gives a privilege for an object.
-use Rattle.std.specs.Prelude.{◌≡◌, ℕ, ◌<◌, true, ◌⊎◌, Some, None, Option}
+use Rattle.std.specs.Prelude.{◌≡◌, ℕ, ◌<◌, true, ◌⊎◌, Some, None, Option, MatchOption}
 use Rattle.model.specs.Graphs.{RoleGraph, Reaches}
 use Rattle.model.specs.Places.{place}
 use Rattle.model.specs.Stores.{Cells}
@@ -21,6 +21,10 @@ InOwnRight masters cells u o p = Owns masters u o ⊎ Optioned cells o p (User u
 pub record Through {S : Type 0} (g : RoleGraph) (cells : Cells S) (u o : ℕ) (p : Privilege) (r : ℕ) : Type 0 where
   pub option : Optioned cells o p (Role r)
   pub reaches : Reaches g (User u) (Role r)
+
+-- the lowest number that passes, or that none does
+abbrev pub IsLowest : (ℕ → Type 0) → Option ℕ → Type 0
+IsLowest P r = MatchOption r ((k : ℕ) → P k → ⊥) (λ k. P k × ((j : ℕ) → j < k → P j → ⊥))
 
 -- the user does not give as itself, and q is the lowest-numbered such role
 pub record LowestRole {S : Type 0} (g : RoleGraph) (masters : Masters) (cells : Cells S) (u o : ℕ) (p : Privilege) (q : Principal) : Type 0 where

@@ -9,7 +9,7 @@ use Rattle.model.specs.declared.principal.Principal.{Principal}
 use Rattle.model.specs.declared.principal.Principal.TheVariants.{User, Role}
 use Rattle.model.specs.declared.privilege.Privilege.{Privilege}
 use Rattle.model.specs.declared.cell.Orientation.{Orientation}
-use Rattle.model.specs.declared.cell.Orientation.TheVariants.{Up, Down}
+use Rattle.model.specs.declared.cell.Orientation.TheVariants.{Up, Down, Neutral}
 use Rattle.access.specs.Masters.{Masters, Owns}
 use Rattle.access.specs.Reaching.{Assigned, Strongest}
 
@@ -29,6 +29,16 @@ pub record Towards {S : Type 0} (cells : Cells S) (o : ℕ) (p : Privilege) (q :
   pub granter : Principal
   pub state : (cells (place o granter q p)).state ≡ s
   pub oriented : (cells (place o granter q p)).orientation ≡ t
+
+-- what is oriented so at the role r comes to the principal q: up if q reaches r, down if q is under r
+abbrev pub Carries : RoleGraph → Principal → ℕ → Orientation → Type 0
+Carries g q r Up = Reaches g q (Role r)
+Carries g q r Down = IsUnder g q r
+Carries g q r Neutral = ⊥
+
+-- assigned to the role r in one orientation, it comes to the principal q
+abbrev pub Carried : {S : Type 0} → RoleGraph → Cells S → ℕ → Privilege → Principal → ℕ → Orientation → S → Type 0
+Carried g cells o p q r t s = Towards cells o p (Role r) t s × Carries g q r t
 
 -- oriented up at a role that the principal reaches
 abbrev pub Rising : {S : Type 0} → RoleGraph → Cells S → ℕ → Privilege → Principal → ℕ → S → Type 0

@@ -1,10 +1,65 @@
-// The type and the owner of each object.
-ghost use Rattle.std.specs.Prelude.{◌≡◌, length};
+// The type and the owner of each object, and how objects come into being.
+ghost use Rattle.std.specs.Prelude.{◌≡◌, length, List, Option, if◌then◌else◌, Decides};
+ghost use Rattle.access.specs.declared.master.Master.{Master};
+ghost use Rattle.access.specs.Masters.{listed, no_masters, takes_master, with_master, Owns};
 
 use crate::master::Master;
+use model::object::{OBJECTS, is_object};
+use model::principal::Principal;
+use std::marker::Model;
 
 #[derive(Drop)]
 pub struct Directory {
-    pub(crate) entries: [Option<Master>; 32],
-    ghost sized: { length entries ≡ 32 },
+    entries: [Option<Master>; OBJECTS as usize],
+}
+
+// An entry for each object.
+impl Model for Directory {
+    ghost Value = { List (Option Master) };
+
+    ghost view = { λ d. d.entries };
+
+    ghost invariant = { λ d. length d.entries ≡ 32 };
+}
+
+impl Directory {
+    // A directory in which no object exists.
+    #[tactic(auto, using(crate::proofs::NewDirectory::none_listed))]
+    pub fn new() -> Directory
+        ensures { listed result ≡ no_masters }
+    {
+        Directory {
+            entries: [None; OBJECTS as usize],
+        }
+    }
+
+    // The type and the owner of an object, if it exists.
+    pub fn master(&self, object: u8) -> Option<Master>
+        ensures { result ≡ listed self.now object }
+    {
+        self.entries.get(object as usize).copied().flatten()
+    }
+
+    // Makes an object that does not exist yet, and says whether it did.
+    pub fn register(&mut self, object: u8, master: Master) -> bool
+        ensures answer { result ≡ takes_master (listed self.old) object master }
+        ensures after { listed self.new ≡ (if takes_master (listed self.old) object master then with_master (listed self.old) object master else listed self.old) }
+    {
+        if !is_object(object)
+            || !Principal::User(master.owner).is_in_range()
+            || self.entries[object as usize].is_some()
+        {
+            return false;
+        }
+        self.entries[object as usize] = Some(master);
+        true
+    }
+
+    // Whether a user owns an object.
+    pub fn is_owner(&self, user: u8, object: u8) -> bool
+        ensures { Decides result (Owns (listed self.now) user object) }
+    {
+        self.master(object)
+            .is_some_and(|master| master.owner == user)
+    }
 }

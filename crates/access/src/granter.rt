@@ -1,95 +1,66 @@
 // As whom a user gives.
-ghost use Rattle.std.specs.Prelude.{◌≡◌, ℕ, ◌<◌, Decides, Option, MatchOption};
+ghost use Rattle.std.specs.Prelude.{◌≡◌, Decides, Option};
 ghost use Rattle.access.specs.Masters.{listed};
-ghost use Rattle.access.specs.Giving.{Optioned, InOwnRight, Through, GranterIs};
+ghost use Rattle.access.specs.Giving.{Optioned, InOwnRight, Through, IsLowest, GranterIs};
 
-use crate::directory::Directory;
+use crate::access::Access;
 use model::graph::Graph;
 use model::principal::{Principal, ROLES};
-use model::privilege::Privilege;
+use model::right::Right;
 use model::scale::Scale;
 use model::store::Store;
 
-// Whether a principal has an option, from any granter.
-fn is_optioned<S: Scale, T: Store<S>>(
-    store: &T,
-    object: u8,
-    privilege: Privilege,
-    principal: Principal,
-) -> bool
-    ensures { Decides result (Optioned (T.cells store.now) object privilege principal) }
-{
-    store.sound();
-    store.has_option(object, privilege, principal)
-}
-
-// Whether a user gives as itself: it owns the object, or has an option.
-fn gives_as_itself<S: Scale, T: Store<S>>(
-    directory: &Directory,
-    store: &T,
-    user: u8,
-    object: u8,
-    privilege: Privilege,
-) -> bool
-    ensures { Decides result (InOwnRight (listed directory.now.entries) (T.cells store.now) user object privilege) }
-{
-    if directory.is_owner(user, object) {
-        return true;
+impl<T, G: Graph> Access<'_, T, G> {
+    // Whether a principal has an option, from any granter.
+    fn is_optioned<S: Scale>(&self, right: Right, principal: Principal) -> bool
+    where
+        T: Store<S>,
+        ensures { Decides result (Optioned (T.cells self.now.store.now) right.object right.privilege principal) }
+    {
+        self.store.sound();
+        self.store.has_option(right, principal)
     }
-    is_optioned(store, object, privilege, Principal::User(user))
-}
 
-// Whether a role has an option and the user reaches it. Where it has none, reach is not asked.
-fn gives_through<S: Scale, T: Store<S>, G: Graph>(
-    store: &T,
-    graph: &G,
-    user: u8,
-    object: u8,
-    privilege: Privilege,
-    role: u8,
-) -> bool
-    ensures { Decides result (Through (G.meaning graph.now) (T.cells store.now) user object privilege role) }
-{
-    if !is_optioned(store, object, privilege, Principal::Role(role)) {
-        return false;
+    // Whether a user gives as itself: it owns the object, or has an option.
+    fn gives_as_itself<S: Scale>(&self, right: Right, user: u8) -> bool
+    where
+        T: Store<S>,
+        ensures { Decides result (InOwnRight (listed self.now.directory.now) (T.cells self.now.store.now) user right.object right.privilege) }
+    {
+        self.directory.is_owner(user, right.object)
+            || self.is_optioned(right, Principal::User(user))
     }
-    graph.reaches(Principal::User(user), Principal::Role(role))
-}
 
-// The lowest-numbered role through which the user gives, if there is one.
-fn lowest_role<S: Scale, T: Store<S>, G: Graph>(
-    store: &T,
-    graph: &G,
-    user: u8,
-    object: u8,
-    privilege: Privilege,
-) -> Option<u8>
-    ensures { MatchOption result ((k : ℕ) → Through (G.meaning graph.now) (T.cells store.now) user object privilege k → ⊥) (λ k. Through (G.meaning graph.now) (T.cells store.now) user object privilege k × ((j : ℕ) → j < k → Through (G.meaning graph.now) (T.cells store.now) user object privilege j → ⊥)) }
-{
-    for role in 0..ROLES {
-        if gives_through(store, graph, user, object, privilege, role) {
-            return Some(role);
+    // Whether a role has an option and the user reaches it. Where it has none, reach is not asked.
+    fn gives_through<S: Scale>(&self, right: Right, user: u8, role: u8) -> bool
+    where
+        T: Store<S>,
+        ensures { Decides result (Through (G.meaning self.now.graph.now) (T.cells self.now.store.now) user right.object right.privilege role) }
+    {
+        let role = Principal::Role(role);
+        self.is_optioned(right, role) && self.graph.reaches(Principal::User(user), role)
+    }
+
+    // The lowest-numbered role through which the user gives, if there is one.
+    fn lowest_role<S: Scale>(&self, right: Right, user: u8) -> Option<u8>
+    where
+        T: Store<S>,
+        ensures { IsLowest (Through (G.meaning self.now.graph.now) (T.cells self.now.store.now) user right.object right.privilege) result }
+    {
+        (0..ROLES).find(|role| self.gives_through(right, user, *role))
+    }
+
+    // The owner and whoever has an option in its own right gives as itself; any other user as the
+    // lowest-numbered role with an option that it reaches, if there is one.
+    pub fn granter<S: Scale>(&self, right: Right, user: u8) -> Option<Principal>
+    where
+        T: Store<S>,
+        ensures answer { GranterIs (G.meaning self.now.graph.now) (listed self.now.directory.now) (T.cells self.now.store.now) user right.object right.privilege result }
+        ensures only { (q : Option Principal) → GranterIs (G.meaning self.now.graph.now) (listed self.now.directory.now) (T.cells self.now.store.now) user right.object right.privilege q → q ≡ result }
+    {
+        if self.gives_as_itself(right, user) {
+            return Some(Principal::User(user));
         }
+        self.lowest_role(right, user).map(Principal::Role)
     }
-    None
-}
-
-// The owner and whoever has an option in its own right gives as itself; any other user as the
-// lowest-numbered role with an option that it reaches, if there is one.
-pub fn granter<S: Scale, T: Store<S>, G: Graph>(
-    directory: &Directory,
-    store: &T,
-    graph: &G,
-    user: u8,
-    object: u8,
-    privilege: Privilege,
-) -> Option<Principal>
-    ensures answer { GranterIs (G.meaning graph.now) (listed directory.now.entries) (T.cells store.now) user object privilege result }
-    ensures only { (q : Option Principal) → GranterIs (G.meaning graph.now) (listed directory.now.entries) (T.cells store.now) user object privilege q → q ≡ result }
-{
-    if gives_as_itself(directory, store, user, object, privilege) {
-        return Some(Principal::User(user));
-    }
-    let role = lowest_role(store, graph, user, object, privilege)?;
-    Some(Principal::Role(role))
 }

@@ -1,7 +1,0 @@
-use Rattle.access.proofs.ReadCells.{in_any_orientation}
-use Rattle.access.proofs.answer.own.Goals as goal
-
-pub returns : goal.returns
-returns g c =
-    in_any_orientation g.S.Scale.states g.met.S.Scale.lawful (g.T.Store.cells c.args.store.now) c.args.object c.args.privilege c.args.principal _ _ _ _ _
-    c.towards-up.ensures c.towards-down.ensures c.towards-neutral.ensures c.join.ensures.stronger c.join-2.ensures.stronger
