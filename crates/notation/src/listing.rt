@@ -59,10 +59,8 @@ fn show_byte(out: &mut String, b: u8) -> Result<(), AllocError>
 fn show_remark(out: &mut String, body: &[u8]) -> Result<(), AllocError>
     ensures { OnOk result ((m : List ℕ) × (RemarkOn body.now m × (string_bytes out.new ≡ string_bytes out.old ++ m))) }
 {
-    let Err(fault) = sentence_of(body) else {
-        return Ok(());
-    };
-    let number = fault.number();
-    let place = fault.place();
-    write!(out, "\tno {number} at {place}")
+    match sentence_of(body) {
+        Ok(_) => Ok(()),
+        Err(fault) => write!(out, "\t{fault}"),
+    }
 }

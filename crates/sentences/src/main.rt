@@ -13,11 +13,7 @@ fn answer(rt: &HostRuntime, body: &[u8]) -> io::Result<()> {
             line.push(b'\n')?;
             rt.stdout().write_all(line.as_slice())
         }
-        Err(fault) => {
-            let number = fault.number();
-            let place = fault.place();
-            println!(rt; "no {number} at {place}")
-        }
+        Err(fault) => println!(rt; "{fault}"),
     }
 }
 

@@ -1,5 +1,5 @@
 -- The number, the layer and the place of each wording fault.
-use Rattle.std.specs.Prelude.{ℕ, List, ◌++◌, codes, decimal}
+use Rattle.std.specs.Prelude.{ℕ, List}
 use Rattle.reading.specs.declared.fault.Layer.{Layer}
 use Rattle.reading.specs.declared.fault.Layer.TheVariants.{Wording}
 use Rattle.reading.specs.Faults as reading
@@ -25,4 +25,4 @@ place_of (Range p) = p
 
 -- no 7 at 5
 abbrev pub shown : WordingFault → List ℕ
-shown f = codes "no " ++ decimal (number_of f) ++ codes " at " ++ decimal (place_of f)
+shown f = reading.told (number_of f) (place_of f)
