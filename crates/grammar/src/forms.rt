@@ -11,7 +11,7 @@ use crate::parts::{Number, Object, Role, User};
 use crate::phrase::Phrase;
 use crate::sentence::{Misworded, Restriction, Sentence};
 use model::principal::Principal;
-use model::privilege::Privilege;
+use model::right::Right;
 
 pub(crate) fn role_form(mut words: Phrase) -> Result<Sentence, Misworded>
     ensures { Continues command.Role words.entry result }
@@ -64,39 +64,27 @@ pub(crate) fn cut_form(words: Phrase) -> Result<Sentence, Misworded>
     Ok(Sentence::Cut { role, upper })
 }
 
-// A privilege on an object, and the principal that it is about.
-#[derive(Clone, Copy)]
-struct Entitlement {
-    privilege: Privilege,
-    object: u8,
-    principal: Principal,
-}
-
-// A privilege, an object and a principal, with a word before the principal.
-fn right(words: &mut Phrase, word: &[u8]) -> Result<Entitlement, Misworded>
-    ensures { MatchResult result (λ x. TakesRight words.old words.new word.now x.privilege x.object x.principal) (λ e. (tail : List Slot) → ErrsAt (right_slots word.now) tail words.old e) }
+// A right and a principal, with a word before the principal.
+fn right(words: &mut Phrase, word: &[u8]) -> Result<(Right, Principal), Misworded>
+    ensures { MatchResult result (λ x. TakesRight words.old words.new word.now x.0.privilege x.0.object x.1) (λ e. (tail : List Slot) → ErrsAt (right_slots word.now) tail words.old e) }
 {
     let privilege = words.part()?;
     words.keyword(b"ON")?;
     let Object(object) = words.part()?;
     words.keyword(word)?;
     let principal = words.part()?;
-    Ok(Entitlement {
-        privilege,
-        object,
-        principal,
-    })
+    Ok((Right { object, privilege }, principal))
 }
 
 pub(crate) fn grant_form(mut words: Phrase) -> Result<Sentence, Misworded>
     ensures { Continues command.Grant words.entry result }
 {
-    let grant = right(&mut words, b"TO")?;
+    let (right, grantee) = right(&mut words, b"TO")?;
     let option = words.tail(&[b"OPTION"])?;
     Ok(Sentence::Grant {
-        privilege: grant.privilege,
-        object: grant.object,
-        grantee: grant.principal,
+        privilege: right.privilege,
+        object: right.object,
+        grantee,
         option,
     })
 }
@@ -107,13 +95,13 @@ pub(crate) fn restrict_form(
 ) -> Result<Sentence, Misworded>
     ensures { Continues (command.Restrict restriction) words.entry result }
 {
-    let restricted = right(&mut words, b"TO")?;
+    let (right, grantee) = right(&mut words, b"TO")?;
     let neutral = words.tail(&[b"NEUT", b"ORNT"])?;
     Ok(Sentence::Restrict {
         restriction,
-        privilege: restricted.privilege,
-        object: restricted.object,
-        grantee: restricted.principal,
+        privilege: right.privilege,
+        object: right.object,
+        grantee,
         neutral,
     })
 }
@@ -121,23 +109,23 @@ pub(crate) fn restrict_form(
 pub(crate) fn revoke_form(mut words: Phrase) -> Result<Sentence, Misworded>
     ensures { Continues command.Revoke words.entry result }
 {
-    let revoked = right(&mut words, b"FROM")?;
+    let (right, grantee) = right(&mut words, b"FROM")?;
     words.end()?;
     Ok(Sentence::Revoke {
-        privilege: revoked.privilege,
-        object: revoked.object,
-        grantee: revoked.principal,
+        privilege: right.privilege,
+        object: right.object,
+        grantee,
     })
 }
 
 pub(crate) fn check_form(mut words: Phrase) -> Result<Sentence, Misworded>
     ensures { Continues command.Check words.entry result }
 {
-    let asked = right(&mut words, b"FOR")?;
+    let (right, principal) = right(&mut words, b"FOR")?;
     words.end()?;
     Ok(Sentence::Check {
-        privilege: asked.privilege,
-        object: asked.object,
-        principal: asked.principal,
+        privilege: right.privilege,
+        object: right.object,
+        principal,
     })
 }

@@ -2,5 +2,5 @@ use Rattle.std.proofs.lemmas.Result.{err_from_is_err_and}
 use Rattle.grammar.specs.Sentences.{neutral_tail}
 use Rattle.grammar.proofs.forms.restrict_form.Goals as goal
 
-pub returns-in_err-restricted : goal.returns-in_err-restricted
-returns-in_err-restricted c = let p = err_from_is_err_and c.from_residual.result c.from_residual.ensures.1 in rw (p.1, p.2) (c.in_err-restricted.ensures neutral_tail)
+pub returns-in_err-right : goal.returns-in_err-right
+returns-in_err-right c = let p = err_from_is_err_and c.from_residual.result c.from_residual.ensures.1 in rw (p.1, p.2) (c.in_err-right.ensures neutral_tail)

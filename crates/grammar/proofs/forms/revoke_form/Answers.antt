@@ -2,5 +2,5 @@ use Rattle.std.proofs.Common.{[]}
 use Rattle.std.proofs.lemmas.Result.{err_from_is_err_and}
 use Rattle.grammar.proofs.forms.revoke_form.Goals as goal
 
-pub returns-in_err-revoked : goal.returns-in_err-revoked
-returns-in_err-revoked c = let p = err_from_is_err_and c.from_residual.result c.from_residual.ensures.1 in rw (p.1, p.2) (c.in_err-revoked.ensures [])
+pub returns-in_err-right : goal.returns-in_err-right
+returns-in_err-right c = let p = err_from_is_err_and c.from_residual.result c.from_residual.ensures.1 in rw (p.1, p.2) (c.in_err-right.ensures [])
