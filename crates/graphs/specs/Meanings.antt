@@ -17,6 +17,7 @@ list_graph s = graph_of s.levels.of_roles (held s.links.now s.len)
 abbrev pub list_full : LinkList → Bool
 list_full s = nat_le 256 (length s.links.now)
 
+-- what each of them keeps makes it sound
 pub rows_sound : (s : BitRows) → Sound (rows_graph s)
 rows_sound s = kept_sound s.levels.of_roles (in_rows s.rows) s.len s.levels.sized s.levels.low s.kept
 
