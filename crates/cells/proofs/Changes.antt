@@ -160,6 +160,7 @@ module _ {S : Type 0} (s : States S) (law : Lawful s) (u : S) (xs : List (CellRe
       pub replace_kept : Kept u (set xs i r) n
       replace_kept = record {
         within = omega (arith, old.within, same_length);
+        ample = λ lt. omega (arith, old.ample lt, same_length);
         assigned = assigned_set n new (λ j lt _. lt);
         ranged = over_ranged moved ln was;
         distinct = over_distinct moved ln was;
@@ -176,10 +177,11 @@ module _ {S : Type 0} (s : States S) (law : Lawful s) (u : S) (xs : List (CellRe
           (λ j lj h. (j, lj, every j ∙ h, rest_cell j (λ e. else- (sym h ∙ ap (place_at xs) e ∙ was))))
           (λ k lk h. (k, lk, sym (every k) ∙ h)))
 
-    module _ (end : i ≡ n) (inside : place_in_range r.place ≡ true) (absent : (j : ℕ) → j < n → place_at xs j ≡ r.place → ⊥) (free : used_in (place_at xs) n r.place.object r.place.granter r.place.grantee ≡ false → pairs_in (place_at xs) n r.place.object < 16) where
+    module _ (full : 4096 ≤ length xs) (end : i ≡ n) (inside : place_in_range r.place ≡ true) (absent : (j : ℕ) → j < n → place_at xs j ≡ r.place → ⊥) (free : used_in (place_at xs) n r.place.object r.place.granter r.place.grantee ≡ false → pairs_in (place_at xs) n r.place.object < 16) where
       pub add_kept : Kept u (set xs i r) (n + 1)
       add_kept = record {
         within = omega (arith, same_length);
+        ample = λ lt. omega (arith, same_length);
         assigned = assigned_set (n + 1) new (λ j lt ne. let ne' : j ≡ n → ⊥ = λ f. ne (f ∙ sym end) in omega arith);
         ranged = add_ranged moved end inside absent free;
         distinct = add_distinct moved end inside absent free;
@@ -211,6 +213,7 @@ module _ {S : Type 0} (s : States S) (law : Lawful s) (u : S) (xs : List (CellRe
     pub strike_kept : Kept u (set xs i r) (n - 1)
     strike_kept = record {
       within = omega (arith, old.within, same_length);
+      ample = λ lt. omega (arith, old.ample (omega arith), same_length);
       assigned = assigned_set (n - 1) (λ h. old.assigned (n - 1) (omega arith) (state_cell s u xs (n - 1) within_last ∙ ap (λ (c : Cell S). c.state) (sym last_cell) ∙ h)) (λ j lt _. omega arith);
       ranged = strike_ranged ln struck;
       distinct = strike_distinct ln struck;

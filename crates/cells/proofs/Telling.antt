@@ -162,6 +162,7 @@ module _ {S : Type 0} (s : States S) (law : Lawful s) (xs : List (CellRecord S))
 pub new_kept : {S : Type 0} (u : S) (xs : List (CellRecord S)) → Kept u xs 0
 new_kept u xs = record {
   within = omega arith;
+  ample = λ lt. absurd (omega arith);
   assigned = λ i lt. absurd (omega arith);
   ranged = λ i lt. absurd (omega arith);
   distinct = λ i j w. absurd (omega (arith, w.first));

@@ -66,6 +66,8 @@ Roomy at n = (o : ℕ) → o < 32 → pairs_in at n o ≤ 16
 -- all that the list keeps of the first n records of its memory, where no record has the state u
 pub record Kept {S : Type 0} (u : S) (xs : List (CellRecord S)) (n : ℕ) : Type 0 where
   pub within : n ≤ length xs
+  -- without the full memory no record counts
+  pub ample : 0 < n → 4096 ≤ length xs
   pub assigned : Assigned u (state_at u xs) n
   pub ranged : Ranged (place_at xs) n
   pub distinct : Distinct (place_at xs) n

@@ -2,7 +2,7 @@
 ghost use Rattle.std.specs.Prelude.{◌≡◌, ◌<◌, true, ◌||◌, length, MatchOption, nat_lt, slice_set};
 ghost use Rattle.model.specs.Allowed.{unassigned as unassigned_of};
 ghost use Rattle.model.specs.Stores.{put, after_write};
-ghost use Rattle.cells.specs.Kept.{Kept};
+ghost use Rattle.cells.specs.Kept.{Kept, place_at};
 ghost use Rattle.cells.specs.Lists.{cells_of, IsAt, IsAbsent, IsHoldable, Becomes, has_room as has_room_of};
 
 use crate::list::CellList;
@@ -60,9 +60,9 @@ impl<'a, S: Scale> CellList<'a, S> {
     }
 
     // Strikes record i out: the last one takes its slot.
-    fn strike(&mut self, i: usize, place: Place)
-        requires { IsAt self.old place i }
-        ensures { Becomes S.Scale.states self.old self.new (put (cells_of S.Scale.states self.old) place (unassigned_of S.Scale.states)) }
+    fn strike(&mut self, i: usize)
+        requires { i < self.old.len }
+        ensures { Becomes S.Scale.states self.old self.new (put (cells_of S.Scale.states self.old) (place_at self.old.memory.now i) (unassigned_of S.Scale.states)) }
     {
         let last = self.len - 1;
         let slot = self.memory[last];
@@ -74,7 +74,7 @@ impl<'a, S: Scale> CellList<'a, S> {
         ensures { Becomes S.Scale.states self.old self.new (put (cells_of S.Scale.states self.old) place (unassigned_of S.Scale.states)) }
     {
         if let Some(i) = self.position(place) {
-            self.strike(i, place);
+            self.strike(i);
         }
     }
 

@@ -17,7 +17,7 @@ rewrite-requires-clause-kept g c =
     let t = c.args.self.now in
     let can = c.requires.holdable in
     rw c.new-slot.ensures
-    (add_kept s g.met.S.Scale.lawful s.unassign t.memory.now t.len t.kept t.len (record_of c.args.place c.args.cell.now) (rewrite-requires-clause-inside g c) can.assigned refl can.inside c.requires.absent (room_free _ _ c.requires.room))
+    (add_kept s g.met.S.Scale.lawful s.unassign t.memory.now t.len t.kept t.len (record_of c.args.place c.args.cell.now) (rewrite-requires-clause-inside g c) can.assigned can.memory refl can.inside c.requires.absent (room_free _ _ c.requires.room))
 
 pub returns : goal.returns
 returns g c =
@@ -30,5 +30,5 @@ returns g c =
     let inside : t.len < length t.memory.now = omega (arith, can.memory) in
     becomes s t c.rewrite.new.self _ (t.len + 1) c.rewrite.ensures.memory c.rewrite.ensures.count (simp length-set)
     (rw c.new-slot.ensures
-    (add_cells s law s.unassign t.memory.now t.len t.kept t.len (record_of p c.args.cell.now) inside can.assigned refl can.inside c.requires.absent (room_free _ _ c.requires.room)
+    (add_cells s law s.unassign t.memory.now t.len t.kept t.len (record_of p c.args.cell.now) inside can.assigned can.memory refl can.inside c.requires.absent (room_free _ _ c.requires.room)
     ∙ ap (put (list_cells s t.memory.now t.len) p) (read_back s law p c.args.cell.now can.allowed)))
