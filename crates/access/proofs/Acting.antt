@@ -79,11 +79,11 @@ module _ (g : RoleGraph) (sound : Sound g) where
         go (inr (inl y)) = inr (inl (record { granter = x.granter; state = x.state; oriented = y.0 }, through_reaches q x.at h.role h.acts y.1.reaches))
         go (inr (inr y)) = inr (inr (record { granter = x.granter; state = x.state; oriented = y.0 }, record { role = h.role; acts = h.acts; above = y.1 }))
 
-    from_below : (n : ℕ) → n ≡ 64 → (s : S) → FromBelow g cells o p q n s → ThroughActing s
-    from_below n e s h = way_through h.role (omega (arith, h.less)) s h.from
+    from_below : (s : S) → FromBelow g cells o p q 64 s → ThroughActing s
+    from_below s h = way_through h.role h.less s h.from
 
-    to_below : (n : ℕ) → n ≡ 64 → (s : S) → ThroughActing s → FromBelow g cells o p q n s
-    to_below n e s h = record { role = h.reaches.at; less = omega (arith, h.reaches.in_range); from = through_way s h }
+    to_below : (s : S) → ThroughActing s → FromBelow g cells o p q 64 s
+    to_below s h = record { role = h.reaches.at; less = h.reaches.in_range; from = through_way s h }
 
   module _ {S : Type 0} (st : States S) (masters : Masters) (cells : Cells S) (o : ℕ) (p : Privilege) where
     reaching : (q : Principal) (s : S) → Apart st masters cells o p q s ⊎ ThroughActing cells o p q s → Reaching st g masters cells o p q s
@@ -99,18 +99,18 @@ module _ (g : RoleGraph) (sound : Sound g) where
     reached (User u) s (inr (inl h)) = inr (record { role = h.role; acts = h.held; reaches = h.reaches })
     reached (User u) s (inr (inr h)) = inl (inr h)
 
-    pub so_far_all : Lawful st → (q : Principal) (n : ℕ) (s : S) → n ≡ 64 → Strongest st (SoFar st g masters cells o p q n) s → IsAnswer st g masters cells o p q s
-    so_far_all law q n s e = strongest_same st law (SoFar st g masters cells o p q n) (Reaching st g masters cells o p q) s to from
+    pub so_far_all : Lawful st → (q : Principal) (s : S) → Strongest st (SoFar st g masters cells o p q 64) s → IsAnswer st g masters cells o p q s
+    so_far_all law q s = strongest_same st law (SoFar st g masters cells o p q 64) (Reaching st g masters cells o p q) s to from
       where
-        to : (t : S) → SoFar st g masters cells o p q n t → Reaching st g masters cells o p q t
+        to : (t : S) → SoFar st g masters cells o p q 64 t → Reaching st g masters cells o p q t
         to t (inl h) = reaching q t (inl h)
-        to t (inr h) = reaching q t (inr (from_below cells o p q n e t h))
+        to t (inr h) = reaching q t (inr (from_below cells o p q t h))
 
-        all : (t : S) → Apart st masters cells o p q t ⊎ ThroughActing cells o p q t → SoFar st g masters cells o p q n t
+        all : (t : S) → Apart st masters cells o p q t ⊎ ThroughActing cells o p q t → SoFar st g masters cells o p q 64 t
         all t (inl h) = inl h
-        all t (inr h) = inr (to_below cells o p q n e t h)
+        all t (inr h) = inr (to_below cells o p q t h)
 
-        from : (t : S) → Reaching st g masters cells o p q t → SoFar st g masters cells o p q n t
+        from : (t : S) → Reaching st g masters cells o p q t → SoFar st g masters cells o p q 64 t
         from t h = all t (reached q t h)
 
 module _ {S : Type 0} (st : States S) (law : Lawful st) (g : RoleGraph) (masters : Masters) (cells : Cells S) (o : ℕ) (p : Privilege) (q : Principal) where

@@ -79,6 +79,7 @@ impl<T, G: Graph> Access<'_, T, G> {
         ensures { Strongest S.Scale.states (Carried (G.meaning self.now.graph.now) (T.cells self.now.store.now) right.object right.privilege principal role orientation) result }
     {
         let state: S = self.towards(right, Principal::Role(role), orientation);
+        // `same`, since a scale has an order and no `==`.
         if !state.same(S::unassign()) && self.carries(principal, role, orientation) {
             state
         } else {

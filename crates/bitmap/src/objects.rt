@@ -134,10 +134,7 @@ impl ObjectItems {
         requires { i < 16 }
         ensures { result.row ≡ row_at self.now.rows i }
     {
-        match Item::from_row(self.rows[i]) {
-            Some(item) => item,
-            None => unreachable(),
-        }
+        Item::from_row(self.rows[i]).unwrap()
     }
 
     // Gives item i to the pair, with one cell changed.
