@@ -7,7 +7,7 @@ ghost use Rattle.model.specs.declared.principal.Principal.TheVariants.{Role as R
 use grammar::keyword::Keyword;
 use grammar::sentence::Command;
 use model::principal::Principal;
-use model::privilege::Privilege;
+use model::right::Right;
 use std::alloc::{AllocError, Global};
 
 // The words so far, with a space between each and the next.
@@ -78,19 +78,18 @@ impl Body {
             .principal(upper)
     }
 
-    // A privilege, an object and a principal, with a word before the principal.
+    // A right and a principal, with a word before the principal.
     pub(crate) fn right(
         self,
-        privilege: Privilege,
-        object: u8,
+        right: Right,
         word: &[u8],
         principal: Principal,
     ) -> Result<Body, AllocError>
-        ensures { IfOk result (λ b. b.bytes.items ≡ self.bytes.items ++ (32 ∷ join (right_words privilege object word.now principal []))) }
+        ensures { IfOk result (λ b. b.bytes.items ≡ self.bytes.items ++ (32 ∷ join (right_words right.privilege right.object word.now principal []))) }
     {
-        self.word(privilege.word())?
+        self.word(right.privilege.word())?
             .word(b"ON")?
-            .object(object)?
+            .object(right.object)?
             .word(word)?
             .principal(principal)
     }

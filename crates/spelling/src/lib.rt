@@ -13,7 +13,7 @@ use grammar::keyword::Keyword;
 use grammar::sentence::{Command, Restriction, Sentence};
 use model::kind::Kind;
 use model::principal::Principal;
-use model::privilege::Privilege;
+use model::right::Right;
 use std::alloc::{AllocError, Global};
 
 fn role_body(heap: Global, role: u8, level: u8) -> Result<Body, AllocError>
@@ -38,14 +38,13 @@ fn object_body(heap: Global, object: u8, kind: Kind, owner: u8) -> Result<Body, 
 
 fn grant_body(
     heap: Global,
-    privilege: Privilege,
-    object: u8,
+    right: Right,
     grantee: Principal,
     option: bool,
 ) -> Result<Body, AllocError>
-    ensures { IfOk result (λ b. b.bytes.items ≡ join (spell_of (sentence_of.Grant privilege object grantee option))) }
+    ensures { IfOk result (λ b. b.bytes.items ≡ join (spell_of (sentence_of.Grant right.privilege right.object grantee option))) }
 {
-    let body = Body::of(heap, Command::Grant)?.right(privilege, object, b"TO", grantee)?;
+    let body = Body::of(heap, Command::Grant)?.right(right, b"TO", grantee)?;
     if option {
         body.word(b"OPTION")
     } else {
@@ -56,16 +55,13 @@ fn grant_body(
 fn restrict_body(
     heap: Global,
     restriction: Restriction,
-    privilege: Privilege,
-    object: u8,
+    right: Right,
     grantee: Principal,
     neutral: bool,
 ) -> Result<Body, AllocError>
-    ensures { IfOk result (λ b. b.bytes.items ≡ join (spell_of (sentence_of.Restrict restriction privilege object grantee neutral))) }
+    ensures { IfOk result (λ b. b.bytes.items ≡ join (spell_of (sentence_of.Restrict restriction right.privilege right.object grantee neutral))) }
 {
-    let body = Body::of(heap, Command::Restrict(restriction))?.right(
-        privilege, object, b"TO", grantee,
-    )?;
+    let body = Body::of(heap, Command::Restrict(restriction))?.right(right, b"TO", grantee)?;
     if neutral {
         body.word(b"NEUT")?.word(b"ORNT")
     } else {
@@ -91,24 +87,30 @@ pub fn spell(heap: Global, sentence: Sentence) -> Result<Vec<u8>, AllocError>
             object,
             grantee,
             option,
-        } => grant_body(heap, privilege, object, grantee, option)?,
+        } => grant_body(heap, Right { object, privilege }, grantee, option)?,
         Sentence::Restrict {
             restriction,
             privilege,
             object,
             grantee,
             neutral,
-        } => restrict_body(heap, restriction, privilege, object, grantee, neutral)?,
+        } => restrict_body(
+            heap,
+            restriction,
+            Right { object, privilege },
+            grantee,
+            neutral,
+        )?,
         Sentence::Revoke {
             privilege,
             object,
             grantee,
-        } => Body::of(heap, Command::Revoke)?.right(privilege, object, b"FROM", grantee)?,
+        } => Body::of(heap, Command::Revoke)?.right(Right { object, privilege }, b"FROM", grantee)?,
         Sentence::Check {
             privilege,
             object,
             principal,
-        } => Body::of(heap, Command::Check)?.right(privilege, object, b"FOR", principal)?,
+        } => Body::of(heap, Command::Check)?.right(Right { object, privilege }, b"FOR", principal)?,
     };
     Ok(body.bytes)
 }
