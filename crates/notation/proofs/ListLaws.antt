@@ -111,6 +111,7 @@ pub record Progress (input : List ℕ) (at : ℕ) (out : List ℕ) : Type 0 wher
   pub so_far : Going input at out ⊎ ((at ≡ length input) × Listed input out)
 
 module _ (input : List ℕ) (at : ℕ) (out : List ℕ) (p : Progress input at out) where
+  -- a record more
   pub record_shown : (r : Record) → Reads input at r → (m : List ℕ) → RemarkOn r.body.now m → (text : List ℕ) → text ≡ out ++ ended (line (frame r) ++ m) → Progress input r.next text
   record_shown r h m k text e =
       elim p.so_far [
@@ -118,9 +119,11 @@ module _ (input : List ℕ) (at : ℕ) (out : List ℕ) (p : Progress input at o
         | inr d ↦ absurd (let y = h.stands.yes.0 in let z = d.0 in omega arith)
       ]
 
+  -- the fault, after which nothing is left
   pub fault_shown : (k : ReadingFault) → Refused input at k → (text : List ℕ) → text ≡ out ++ ended (told (number_of k) (place_of k)) → Progress input (length input) text
   fault_shown k h text e =
       elim p.so_far [ inl g ↦ record { so_far = inr (refl, spoiled input at out g k h text e) } | inr d ↦ absurd (h.more d.0) ]
 
+  -- nothing is left
   pub all_shown : at ≡ length input → Listed input out
   all_shown e = elim p.so_far [ inl g ↦ finish input at out g e | inr d ↦ d.1 ]
