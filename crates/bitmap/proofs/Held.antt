@@ -10,7 +10,13 @@ use Rattle.model.specs.declared.cell.Cell.{Cell}
 use Rattle.model.proofs.Joins.{join_laws}
 use Rattle.model.proofs.Counting.{any_none, any_some, any_same}
 use Rattle.model.proofs.Outside.{unassigned_none, allowed_unassigned}
-use Rattle.bitmap.specs.Items.{Items, item_in_use, held, is_item_of, Kept, ItemSet}
+use Rattle.bitmap.specs.Items.{Items, item_in_use, held, is_item_of, Kept, RoomFor, ItemSet}
+
+-- a write of a cell for the pair l and privilege k is asked
+pub record Asked {S : Type 0} (s : States S) (m : Items S) (l k : ℕ) : Type 0 where
+  pub kept : Kept s m
+  pub pair : l < 16384
+  pub privilege : k < 8
 
 module _ {S : Type 0} (s : States S) where
   -- the item is not the pair's
@@ -112,14 +118,14 @@ module _ {S : Type 0} (s : States S) where
         ∙ sym (last_no n (is_item_of (joining s) m l) none))
         (cases_Bool (is_item_of (joining s) m l n))
 
-    module _ (m n : Items S) (i l k : ℕ) (c : Cell S) (li : i < 16) (lk : k < 8) (ll : l < 16384) (kept : Kept s m) (fine : (a q : ℕ) → Allowed s (n.cell a q)) (was : item_in_use (joining s) m i ≡ true → m.pair i ≡ l) (only : (a : ℕ) → a < 16 → item_in_use (joining s) m a ≡ true → m.pair a ≡ l → a ≡ i) (set : ItemSet m n i l k c) where
+    module _ {m n : Items S} {i l k : ℕ} {c : Cell S} (w : Asked s m l k) (li : i < 16) (fine : (a q : ℕ) → Allowed s (n.cell a q)) (room : RoomFor (joining s) m i l) (set : ItemSet m n i l k c) where
       use_kept : (a : ℕ) → a < 16 → (a ≡ i → ⊥) → item_in_use (joining s) n a ≡ item_in_use (joining s) m a
       use_kept a lt ne = use_same n m a (λ q lq. set.items_kept a q lt lq ne)
 
       -- no other item is the pair's afterwards
       only_after : (a : ℕ) → a < 16 → item_in_use (joining s) n a ≡ true → n.pair a ≡ l → a ≡ i
       only_after a lt up own =
-          ⊎_elim (λ e. e) (λ ne. only a lt (sym (use_kept a lt ne) ∙ up) (sym (set.pairs_kept a lt ne) ∙ own)) (cases_eq a i)
+          ⊎_elim (λ e. e) (λ ne. room.only a lt (sym (use_kept a lt ne) ∙ up) (sym (set.pairs_kept a lt ne) ∙ own)) (cases_eq a i)
 
       pub set_kept : Kept s n
       set_kept = record {
@@ -128,13 +134,13 @@ module _ {S : Type 0} (s : States S) where
             (λ ea. sym (only_after b lb ub (sym same ∙ ap n.pair ea ∙ set.pair_here) ∙ sym ea))
             (λ na. ⊎_elim
             (λ eb. only_after a la ua (same ∙ ap n.pair eb ∙ set.pair_here) ∙ sym eb)
-            (λ nb. kept.single a b la lb (sym (use_kept a la na) ∙ ua) (sym (use_kept b lb nb) ∙ ub) (sym (set.pairs_kept a la na) ∙ same ∙ set.pairs_kept b lb nb))
+            (λ nb. w.kept.single a b la lb (sym (use_kept a la na) ∙ ua) (sym (use_kept b lb nb) ∙ ub) (sym (set.pairs_kept a la na) ∙ same ∙ set.pairs_kept b lb nb))
             (cases_eq b i))
             (cases_eq a i);
         bounded = λ a la ua.
             ⊎_elim
-            (λ e. subst (λ (x : ℕ). x < 16384) (sym (ap n.pair e ∙ set.pair_here)) ll)
-            (λ ne. subst (λ (x : ℕ). x < 16384) (sym (set.pairs_kept a la ne)) (kept.bounded a la (sym (use_kept a la ne) ∙ ua)))
+            (λ e. subst (λ (x : ℕ). x < 16384) (sym (ap n.pair e ∙ set.pair_here)) w.pair)
+            (λ ne. subst (λ (x : ℕ). x < 16384) (sym (set.pairs_kept a la ne)) (w.kept.bounded a la (sym (use_kept a la ne) ∙ ua)))
             (cases_eq a i);
         allowed = fine;
       }
@@ -143,8 +149,8 @@ module _ {S : Type 0} (s : States S) where
       read_before : (q : ℕ) → q < 8 → held s m 16 l q ≡ m.cell i q
       read_before q lq =
           ⊎_elim
-          (λ up. held_one m 16 i l q li up (was up) only)
-          (λ idle. held_none m 16 l q (λ a la ua own. both_ways _ idle (ap (item_in_use (joining s) m) (sym (only a la ua own)) ∙ ua)) ∙ sym (idle_cell m kept.allowed i q lq idle))
+          (λ up. held_one m 16 i l q li up (room.own up) room.only)
+          (λ idle. held_none m 16 l q (λ a la ua own. both_ways _ idle (ap (item_in_use (joining s) m) (sym (room.only a la ua own)) ∙ ua)) ∙ sym (idle_cell m w.kept.allowed i q lq idle))
           (cases_Bool (item_in_use (joining s) m i))
 
       read_after : (q : ℕ) → q < 8 → held s n 16 l q ≡ n.cell i q
@@ -155,7 +161,7 @@ module _ {S : Type 0} (s : States S) where
           (cases_Bool (item_in_use (joining s) n i))
 
       pub held_here : held s n 16 l k ≡ c
-      held_here = read_after k lk ∙ set.cell_here
+      held_here = read_after k w.privilege ∙ set.cell_here
 
       held_beside : (q : ℕ) → q < 8 → (q ≡ k → ⊥) → held s n 16 l q ≡ held s m 16 l q
       held_beside q lq ne = read_after q lq ∙ set.cells_kept q lq ne ∙ sym (read_before q lq)
@@ -166,7 +172,7 @@ module _ {S : Type 0} (s : States S) where
           (λ a la. ⊎_elim
           (λ e.
           apart n a b (λ _ f. ne (sym f ∙ ap n.pair e ∙ set.pair_here))
-          ∙ sym (apart m a b (λ up f. ne (sym f ∙ ap m.pair e ∙ was (ap (item_in_use (joining s) m) (sym e) ∙ up)))))
+          ∙ sym (apart m a b (λ up f. ne (sym f ∙ ap m.pair e ∙ room.own (ap (item_in_use (joining s) m) (sym e) ∙ up)))))
           (λ na. ap (λ (x : Bool). x && eqb (n.pair a) b) (use_kept a la na) ∙ ap (λ (x : ℕ). item_in_use (joining s) m a && eqb x b) (set.pairs_kept a la na))
           (cases_eq a i))
           (λ a la yes. ⊎_elim

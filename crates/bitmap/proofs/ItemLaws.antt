@@ -1,15 +1,14 @@
 -- What a row's bits are after a cell is set.
-use Rattle.std.proofs.Common.{◌≡◌, ℕ, ◌+◌, ◌*◌, ◌/◌, ◌%◌, ◌<◌, Bool, true, false, cond, not, ◌&&◌, ◌||◌, eqb, ltb, sym, refl, ap, ◌∙◌, ⊎_elim, arith}
-use Rattle.std.proofs.lemmas.Bool.{cases_eq, both_ways, cond-true, cond-false, lt-ltb, le-ltb}
+use Rattle.std.proofs.Common.{◌≡◌, ℕ, ◌+◌, ◌*◌, ◌/◌, ◌%◌, ◌<◌, Bool, true, false, cond, not, ◌&&◌, ◌||◌, eqb, ltb, sym, ap, ◌∙◌, ⊎_elim, arith, rules}
+use Rattle.std.proofs.lemmas.Bool.{cases_eq, cond-true, lt-ltb}
+use Rattle.std.proofs.lemmas.Bool.Decides.{nat_tests}
 use Rattle.std.proofs.lemmas.Nat.{div-add-mod', shr-shr}
 use Rattle.bits.specs.Bit.{bit}
 use Rattle.scales.specs.declared.five.FiveState.{FiveState}
-use Rattle.scales.specs.declared.five.FiveState.TheVariants.{Deny, Suspend, Taint, Grant, Unassign}
 use Rattle.scales.specs.Five.{five}
 use Rattle.model.specs.Allowed.{is_allowed}
 use Rattle.model.specs.declared.cell.Cell.{Cell}
 use Rattle.model.specs.declared.cell.Orientation.{Orientation}
-use Rattle.model.specs.declared.cell.Orientation.TheVariants.{Up, Down, Neutral}
 use Rattle.bitmap.specs.declared.row.Row.{Row}
 use Rattle.bitmap.specs.Layout.{code_at, option_at, is_code, valid_by, valid_at, ValidRow, cell_as, decode, cell_at, encode_as, encode, CodeSet}
 
@@ -26,22 +25,8 @@ five_bits n h =
     let all : n / 1 ≡ n = omega arith in
     omega arith
 
-low_four : (x y : ℕ) → (16 * x + y) % 16 ≡ y % 16
-low_four x y = omega arith
-
-pub upper_same : (a b t s d n : ℕ) → (16 * a + 8 * t + 4 * s + 2 * d + n) % 16 ≡ (16 * b + 8 * t + 4 * s + 2 * d + n) % 16
-upper_same a b t s d n =
-    let l : 16 * a + 8 * t + 4 * s + 2 * d + n ≡ 16 * a + (8 * t + 4 * s + 2 * d + n) = omega arith in
-    let r : 16 * b + 8 * t + 4 * s + 2 * d + n ≡ 16 * b + (8 * t + 4 * s + 2 * d + n) = omega arith in
-    ap (λ (x : ℕ). x % 16) l ∙ low_four a _ ∙ sym (low_four b _) ∙ ap (λ (x : ℕ). x % 16) (sym r)
-
 pub upper_at : {t s d n t' s' d' n' : ℕ} (a b : ℕ) → t ≡ t' → s ≡ s' → d ≡ d' → n ≡ n' → (16 * a + 8 * t + 4 * s + 2 * d + n) % 16 ≡ (16 * b + 8 * t' + 4 * s' + 2 * d' + n') % 16
-upper_at {t} {s} {d} {n} {t'} {s'} {d'} {n'} a b p q u v =
-    upper_same a b t s d n
-    ∙ ap (λ (x : ℕ). (16 * b + 8 * x + 4 * s + 2 * d + n) % 16) p
-    ∙ ap (λ (x : ℕ). (16 * b + 8 * t' + 4 * x + 2 * d + n) % 16) q
-    ∙ ap (λ (x : ℕ). (16 * b + 8 * t' + 4 * s' + 2 * x + n) % 16) u
-    ∙ ap (λ (x : ℕ). (16 * b + 8 * t' + 4 * s' + 2 * d' + x) % 16) v
+upper_at a b p q u v = omega arith
 
 pub bit_test : {n : ℕ} (b : Bool) → n ≡ cond b 1 0 → eqb n 1 ≡ b
 bit_test true e = ap (λ (n : ℕ). eqb n 1) e
@@ -49,36 +34,7 @@ bit_test false e = ap (λ (n : ℕ). eqb n 1) e
 
 -- an allowed cell has a legal code, an option only with grant, and is read back
 cell_fits : (x : FiveState) (w : Orientation) (o : Bool) → is_allowed five (cell_as x w o) ≡ true → ((is_code (encode_as x w) && (not o || eqb (encode_as x w) 0b10000)) ≡ true) × (decode (encode_as x w) o ≡ cell_as x w o)
-cell_fits Deny Up true e = absurd (both_ways false refl e)
-cell_fits Deny Up false e = absurd (both_ways false refl e)
-cell_fits Deny Down true e = absurd (both_ways false refl e)
-cell_fits Deny Down false e = (refl, refl)
-cell_fits Deny Neutral true e = absurd (both_ways false refl e)
-cell_fits Deny Neutral false e = (refl, refl)
-cell_fits Suspend Up true e = absurd (both_ways false refl e)
-cell_fits Suspend Up false e = absurd (both_ways false refl e)
-cell_fits Suspend Down true e = absurd (both_ways false refl e)
-cell_fits Suspend Down false e = (refl, refl)
-cell_fits Suspend Neutral true e = absurd (both_ways false refl e)
-cell_fits Suspend Neutral false e = (refl, refl)
-cell_fits Taint Up true e = absurd (both_ways false refl e)
-cell_fits Taint Up false e = absurd (both_ways false refl e)
-cell_fits Taint Down true e = absurd (both_ways false refl e)
-cell_fits Taint Down false e = (refl, refl)
-cell_fits Taint Neutral true e = absurd (both_ways false refl e)
-cell_fits Taint Neutral false e = (refl, refl)
-cell_fits Grant Up true e = (refl, refl)
-cell_fits Grant Up false e = (refl, refl)
-cell_fits Grant Down true e = absurd (both_ways false refl e)
-cell_fits Grant Down false e = absurd (both_ways false refl e)
-cell_fits Grant Neutral true e = absurd (both_ways false refl e)
-cell_fits Grant Neutral false e = absurd (both_ways false refl e)
-cell_fits Unassign Up true e = absurd (both_ways false refl e)
-cell_fits Unassign Up false e = (refl, refl)
-cell_fits Unassign Down true e = absurd (both_ways false refl e)
-cell_fits Unassign Down false e = absurd (both_ways false refl e)
-cell_fits Unassign Neutral true e = absurd (both_ways false refl e)
-cell_fits Unassign Neutral false e = absurd (both_ways false refl e)
+cell_fits x w o e = search rules
 
 module _ (r t : Row) (k : ℕ) (c : Cell FiveState) (low : k < 8) (good : is_allowed five c ≡ true) (put : CodeSet r t k (encode c) c.option) where
   fits : ((is_code (encode c) && (not c.option || eqb (encode c) 0b10000)) ≡ true) × (decode (encode c) c.option ≡ c)
@@ -92,10 +48,7 @@ module _ (r t : Row) (k : ℕ) (c : Cell FiveState) (low : k < 8) (good : is_all
       ∙ fits.0
 
   middle : (code : ℕ) (option : Bool) → valid_by (k + 16) code option ≡ eqb (code % 16) 0
-  middle code option =
-      cond-false (ltb (k + 16) 8) _ _ (le-ltb (k + 16) 8 (omega arith))
-      ∙ cond-false (ltb (k + 16) 16) _ _ (le-ltb (k + 16) 16 (omega arith))
-      ∙ cond-true (ltb (k + 16) 24) _ _ (lt-ltb (k + 16) 24 (omega arith))
+  middle code option = grind (arith, nat_tests)
 
   -- another option stays
   option_kept : (j : ℕ) → (j ≡ k → ⊥) → option_at t j ≡ option_at r j

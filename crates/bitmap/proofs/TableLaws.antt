@@ -1,5 +1,5 @@
 -- The table of all objects, and one of them set.
-use Rattle.std.proofs.Common.{◌≡◌, ℕ, zero, suc, ◌<◌, ◌≤◌, Bool, true, ◌&&◌, ltb, List, Option, Some, None, IfSome, MatchOption, is_some, fold, [], ◌∷◌, length, get_or, set, replicate, sym, refl, ap, ◌∙◌, subst, arith}
+use Rattle.std.proofs.Common.{◌≡◌, ℕ, zero, suc, ◌<◌, ◌≤◌, Bool, true, ◌&&◌, ltb, List, Option, Some, None, IfSome, MatchOption, is_some, [], ◌∷◌, length, get_or, set, replicate, sym, refl, ap, ◌∙◌, subst, arith}
 use mathlib.Core.Path.{fun_ext}
 use Rattle.std.specs.List.{list_any, count_by, position, HoldsAt}
 use Rattle.std.proofs.lemmas.Bool.{both_ways, cond_both, and_parts, ltb-true}
@@ -10,7 +10,6 @@ use Rattle.model.specs.Places.{number}
 use Rattle.model.specs.Stores.{no_cells, pairs, in_use, has_option, strongest, AnswersOutside}
 use Rattle.model.specs.Principals.{in_range, object_in_range}
 use Rattle.model.specs.Folds.{count_below, any_below, join_below}
-use Rattle.model.specs.States.{join}
 use Rattle.model.specs.declared.principal.Principal.{Principal}
 use Rattle.model.specs.declared.privilege.Privilege.{Privilege}
 use Rattle.model.specs.declared.cell.Orientation.{Orientation}
@@ -19,14 +18,13 @@ use Rattle.model.proofs.Numbering.{number_in}
 use Rattle.bitmap.specs.declared.row.Row.{Row}
 use Rattle.bitmap.specs.declared.object_items.ObjectItems.{ObjectItems}
 use Rattle.scales.specs.declared.five.FiveState.{FiveState}
-use Rattle.scales.specs.declared.five.FiveState.TheVariants.{Unassign}
 use Rattle.model.specs.Joining.{joining}
 use Rattle.model.specs.declared.cell.Cell.{Cell}
 use Rattle.bitmap.specs.Items.{held, pair_of, numbered, item_in_use, is_item_of, option_in, state_in, Kept, Written}
-use Rattle.bitmap.specs.Tables.{empty_row, row_at, items_of, row_in_use, row_is_of, row_option, row_state, EachInRange}
+use Rattle.bitmap.specs.Tables.{empty_row, row_at, items_of, row_in_use, row_is_of, row_option, rows_strongest}
 use Rattle.bitmap.specs.Objects.{rows_of, items_at, table_cells}
 use Rattle.bitmap.proofs.Held.{held_none}
-use Rattle.bitmap.proofs.RowLaws.{five_lawful, rows_kept, items_allowed, use_is, none_used, rows_count, rows_used, rows_option, rows_strongest}
+use Rattle.bitmap.proofs.RowLaws.{five_lawful, rows_kept, items_allowed, use_is, none_used, rows_count, rows_used, rows_option, strongest_of}
 use Rattle.bitmap.proofs.Telling.{cells_outside, tell_pairs, tell_used, tell_option, tell_strongest}
 
 pub rows_same : (xs : List ObjectItems) (o : ℕ) (x : ObjectItems) → o < length xs → rows_of (set xs o x) o ≡ x.rows
@@ -83,44 +81,36 @@ pub table_empty : (n : ℕ) (x : ObjectItems) → x.rows ≡ replicate 16 empty_
 table_empty n x empty = fun_ext (λ p. cell_empty n x empty p.object (number p.granter) (number p.grantee) (bit p.privilege))
 
 -- what the rows of object o tell is what the cells do
-rows_ranged : (xs : List ObjectItems) (o : ℕ) → EachInRange (rows_of xs o)
-rows_ranged [] o = λ i lt. (omega arith, omega arith)
-rows_ranged (x ∷ xs) zero = x.ranged
-rows_ranged (x ∷ xs) (suc o) = rows_ranged xs o
-
 pub outside : (xs : List ObjectItems) → AnswersOutside five (table_cells xs)
 outside xs = answers_outside_lem five five_lawful (table_cells xs) (cells_outside five five_lawful (items_at xs))
 
-module _ (xs : List ObjectItems) (o : ℕ) (inside : object_in_range o ≡ true) (rows : List Row) (is : rows ≡ rows_of xs o) (long : length rows ≡ 16) where
-  ranged : EachInRange rows
-  ranged = subst EachInRange (sym is) (rows_ranged xs o)
-
+module _ (xs : List ObjectItems) (o : ℕ) (inside : object_in_range o ≡ true) (x : ObjectItems) (is : x.rows ≡ rows_of xs o) where
   below : o < 32
   below = ltb-true o 32 inside
 
-  pub count_told : count_by row_in_use rows ≡ pairs (joining five) (table_cells xs) o
+  pub count_told : count_by row_in_use x.rows ≡ pairs (joining five) (table_cells xs) o
   count_told =
-      rows_count rows long ranged
+      rows_count x
       ∙ ap (λ (r : List Row). count_below 16 (item_in_use (joining five) (items_of r))) is
       ∙ sym (tell_pairs five five_lawful (items_at xs) o below (items_kept xs o))
 
-  pub use_told : (g e : Principal) → (in_range g && in_range e) ≡ true → is_some (position (row_is_of (number g) (number e)) rows) ≡ in_use (joining five) (table_cells xs) o g e
+  pub use_told : (g e : Principal) → (in_range g && in_range e) ≡ true → is_some (position (row_is_of (number g) (number e)) x.rows) ≡ in_use (joining five) (table_cells xs) o g e
   use_told g e both =
       let there = and_parts (in_range g) (in_range e) both in
-      rows_used rows long ranged (number g) (number e) (number_in e there.1)
+      rows_used x (number g) (number e) (number_in e there.1)
       ∙ ap (λ (r : List Row). any_below 16 (is_item_of (joining five) (items_of r) (pair_of (number g) (number e)))) is
       ∙ sym (tell_used five five_lawful (items_at xs) o g e below there.0 there.1)
 
   module _ (e : Principal) (p : Privilege) (there : in_range e ≡ true) where
-    pub option_told : list_any (row_option (number e) (bit p)) rows ≡ has_option (table_cells xs) o p e
+    pub option_told : list_any (row_option (number e) (bit p)) x.rows ≡ has_option (table_cells xs) o p e
     option_told =
-        rows_option rows long ranged (number e) (bit p)
+        rows_option x (number e) (bit p)
         ∙ ap (λ (r : List Row). any_below 16 (option_in (joining five) (items_of r) (number e) (bit p))) is
         ∙ sym (tell_option five five_lawful (items_at xs) o p e below there (items_kept xs o))
 
-    pub strongest_told : (t : Orientation) → fold (λ before row. join five (row_state (number e) (bit p) t row) before) Unassign rows ≡ strongest (joining five) (table_cells xs) o p e t
+    pub strongest_told : (t : Orientation) → rows_strongest (number e) (bit p) t x.rows ≡ strongest (joining five) (table_cells xs) o p e t
     strongest_told t =
-        rows_strongest rows long ranged (number e) (bit p) t
+        strongest_of x (number e) (bit p) t
         ∙ ap (λ (r : List Row). join_below (joining five) 16 (state_in (joining five) (items_of r) (number e) (bit p) t)) is
         ∙ sym (tell_strongest five five_lawful (items_at xs) o p e t below there (items_kept xs o))
 

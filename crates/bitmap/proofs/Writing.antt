@@ -17,8 +17,8 @@ use Rattle.model.proofs.Counting.{any_some, any_none, count_all, count_not_all}
 use Rattle.model.proofs.Numbering.{number_in, number_same, bit_same, bit_below, place_eq, cases_place}
 use Rattle.model.proofs.Puts.{put_from}
 use Rattle.model.proofs.Outside.{allowed_unassigned}
-use Rattle.bitmap.specs.Items.{Items, item_in_use, held, pair_of, numbered, by_number, is_item_of, Kept, ItemSet, Written}
-use Rattle.bitmap.proofs.Held.{held_none, held_here, held_others}
+use Rattle.bitmap.specs.Items.{Items, item_in_use, held, pair_of, numbered, by_number, is_item_of, Kept, RoomFor, ItemSet, Written}
+use Rattle.bitmap.proofs.Held.{Asked, held_none, held_here, held_others}
 use Rattle.bitmap.proofs.Telling.{numbered_in, cells_outside, tell_used, tell_pairs}
 
 pub pair_below : (g e : ℕ) → g < 128 → e < 128 → pair_of g e < 16384
@@ -30,45 +30,47 @@ pair_first g e h f p q same = omega arith
 pair_second : (g e h f : ℕ) → e < 128 → f < 128 → g * 128 + e ≡ h * 128 + f → e ≡ f
 pair_second g e h f p q same = omega arith
 
-module _ {S : Type 0} (s : States S) (law : Lawful s) (m : Items S) (kept : Kept s m) (l k : ℕ) (c : Cell S) (ll : l < 16384) (lk : k < 8) where
+module _ {S : Type 0} {s : States S} (law : Lawful s) {m : Items S} {l k : ℕ} (w : Asked s m l k) where
   laws : JoinLaws (joining s)
   laws = join_laws s law
 
   -- item i is the pair's own, or it is free and no item is the pair's
-  module _ (i : ℕ) (li : i < 16) where
-    pub own_was : is_item_of (joining s) m l i ≡ true → item_in_use (joining s) m i ≡ true → m.pair i ≡ l
-    own_was own _ = eqb-true (m.pair i) l (and_parts (item_in_use (joining s) m i) (eqb (m.pair i) l) own).1
+  pub own_room : (i : ℕ) → i < 16 → is_item_of (joining s) m l i ≡ true → RoomFor (joining s) m i l
+  own_room i li own =
+      let both = and_parts (item_in_use (joining s) m i) (eqb (m.pair i) l) own in
+      let is = eqb-true (m.pair i) l both.1 in
+      record { own = λ _. is; only = λ a la ua same. w.kept.single a i la li ua both.0 (same ∙ sym is) }
 
-    pub own_only : is_item_of (joining s) m l i ≡ true → (a : ℕ) → a < 16 → item_in_use (joining s) m a ≡ true → m.pair a ≡ l → a ≡ i
-    own_only own a la ua same = let both = and_parts (item_in_use (joining s) m i) (eqb (m.pair i) l) own in kept.single a i la li ua both.0 (same ∙ sym (eqb-true (m.pair i) l both.1))
+  pub free_room : (i : ℕ) → item_in_use (joining s) m i ≡ false → ((a : ℕ) → a < 16 → is_item_of (joining s) m l a ≡ false) → RoomFor (joining s) m i l
+  free_room i idle none = record {
+    own = λ up. absurd (both_ways _ idle up);
+    only = λ a la ua same. absurd (both_ways _ (none a la) (and_from (item_in_use (joining s) m a) (eqb (m.pair a) l) ua (eq-eqb (m.pair a) l same)));
+  }
 
-    pub free_was : item_in_use (joining s) m i ≡ false → item_in_use (joining s) m i ≡ true → m.pair i ≡ l
-    free_was idle up = absurd (both_ways _ idle up)
-
-    pub free_only : ((a : ℕ) → a < 16 → is_item_of (joining s) m l a ≡ false) → (a : ℕ) → a < 16 → item_in_use (joining s) m a ≡ true → m.pair a ≡ l → a ≡ i
-    free_only none a la ua same = absurd (both_ways _ (none a la) (and_from (item_in_use (joining s) m a) (eqb (m.pair a) l) ua (eq-eqb (m.pair a) l same)))
-
-  module _ (n : Items S) (fine : (a q : ℕ) → Allowed s (n.cell a q)) (i : ℕ) (li : i < 16) (set : ItemSet m n i l k c) where
+  module _ {n : Items S} {i : ℕ} {c : Cell S} (fine : (a q : ℕ) → Allowed s (n.cell a q)) (li : i < 16) (set : ItemSet m n i l k c) where
     -- the pair's own item
     pub written_own : is_item_of (joining s) m l i ≡ true → Written s m n l k c true
-    written_own own = record {
-      told = sym (or_right ((joining s).same c.state s.unassign) _ (or_left (any_below 16 (is_item_of (joining s) m l)) _ (any_some 16 i (is_item_of (joining s) m l) li own)));
-      here = λ _. held_here s law m n i l k c li lk ll kept fine (own_was i li own) (own_only i li own) set;
-      others = held_others s law m n i l k c li lk ll kept fine (own_was i li own) (own_only i li own) set;
-      refused = λ e. absurd (both_ways true e refl);
-    }
+    written_own own =
+        let room = own_room i li own in
+        record {
+          told = sym (or_right ((joining s).same c.state s.unassign) _ (or_left (any_below 16 (is_item_of (joining s) m l)) _ (any_some 16 i (is_item_of (joining s) m l) li own)));
+          here = λ _. held_here s law w li fine room set;
+          others = held_others s law w li fine room set;
+          refused = λ e. absurd (both_ways true e refl);
+        }
 
     -- an item that is free
     pub written_free : item_in_use (joining s) m i ≡ false → ((a : ℕ) → a < 16 → is_item_of (joining s) m l a ≡ false) → Written s m n l k c true
     written_free idle none =
+        let room = free_room i idle none in
         record {
           told = sym (or_right ((joining s).same c.state s.unassign) _ (or_right (any_below 16 (is_item_of (joining s) m l)) _ (lt-ltb (count_below 16 (item_in_use (joining s) m)) 16 (count_not_all 16 i (item_in_use (joining s) m) li idle))));
-          here = λ _. held_here s law m n i l k c li lk ll kept fine (free_was i li idle) (free_only i li none) set;
-          others = held_others s law m n i l k c li lk ll kept fine (free_was i li idle) (free_only i li none) set;
+          here = λ _. held_here s law w li fine room set;
+          others = held_others s law w li fine room set;
           refused = λ e. absurd (both_ways true e refl);
         }
 
-  module _ (none : (a : ℕ) → a < 16 → is_item_of (joining s) m l a ≡ false) where
+  module _ (c : Cell S) (none : (a : ℕ) → a < 16 → is_item_of (joining s) m l a ≡ false) where
     nothing_held : held s m 16 l k ≡ unassigned s
     nothing_held = held_none s m 16 l k (λ a la ua same. both_ways _ (none a la) (and_from (item_in_use (joining s) m a) (eqb (m.pair a) l) ua (eq-eqb (m.pair a) l same)))
 

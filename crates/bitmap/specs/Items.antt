@@ -44,6 +44,11 @@ pub record Kept {S : Type 0} (s : States S) (m : Items S) : Type 0 where
   pub bounded : (i : ℕ) → i < 16 → item_in_use (joining s) m i ≡ true → m.pair i < 16384
   pub allowed : (i k : ℕ) → Allowed s (m.cell i k)
 
+-- item i can be given to the pair l: it is free or the pair's own, and no other item is the pair's
+pub record RoomFor {S : Type 0} (j : Joining S) (m : Items S) (i l : ℕ) : Type 0 where
+  pub own : item_in_use j m i ≡ true → m.pair i ≡ l
+  pub only : (a : ℕ) → a < 16 → item_in_use j m a ≡ true → m.pair a ≡ l → a ≡ i
+
 -- item i is given to the pair l and its cell k becomes c; the fifteen others stay
 pub record ItemSet {S : Type 0} (m n : Items S) (i l k : ℕ) (c : Cell S) : Type 0 where
   pub pair_here : n.pair i ≡ l

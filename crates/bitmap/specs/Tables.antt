@@ -1,14 +1,16 @@
 -- What rows, and the table of all objects, hold.
-use Rattle.std.specs.Prelude.{◌≡◌, ℕ, ◌<◌, Bool, true, false, cond, ◌&&◌, ◌==◌, List, slice_index_or}
+use Rattle.std.specs.Prelude.{◌≡◌, ℕ, ◌<◌, Bool, true, false, cond, ◌&&◌, ◌==◌, List, Result, MatchResult, fold, slice_index_or}
 use Rattle.scales.specs.declared.five.FiveState.{FiveState}
 use Rattle.scales.specs.declared.five.FiveState.TheVariants.{Unassign}
 use Rattle.scales.specs.Five.{five}
+use Rattle.model.specs.States.{join}
 use Rattle.model.specs.Joining.{joining}
 use Rattle.model.specs.Folds.{any_below}
 use Rattle.model.specs.Stores.{assigned, state_towards}
 use Rattle.model.specs.declared.cell.Orientation.{Orientation}
 use Rattle.bitmap.specs.declared.row.Row.{Row}
-use Rattle.bitmap.specs.Layout.{cell_at, valid_at}
+use Rattle.bitmap.specs.declared.item.Item.{Item}
+use Rattle.bitmap.specs.Layout.{cell_at, valid_at, ValidRow}
 use Rattle.bitmap.specs.Items.{Items, pair_of, item_in_use}
 
 abbrev pub empty_row : Row
@@ -23,6 +25,10 @@ items_of rows = record { pair = λ i. pair_of (row_at rows i).granter (row_at ro
 pub record Bit (i k : ℕ) : Type 0 where
   pub row : i < 16
   pub place : k < 32
+
+-- the item that a row is made, or the row given back where it is not valid
+abbrev pub ItemOf : Row → Result Item Row → Type 0
+ItemOf r result = MatchResult result (λ item. item.row ≡ r) (λ back. (back ≡ r) × (ValidRow r → ⊥))
 
 -- every row can be made an item
 abbrev pub EachValid : List Row → Type 0
@@ -60,3 +66,7 @@ row_option e k r = cond (row_is_for e r) (cell_at r k).option false
 
 abbrev pub row_state : ℕ → ℕ → Orientation → Row → FiveState
 row_state e k t r = cond (row_is_for e r) (state_towards (joining five) t (cell_at r k)) Unassign
+
+-- the join of what the rows give a grantee in an orientation, row by row
+abbrev pub rows_strongest : ℕ → ℕ → Orientation → List Row → FiveState
+rows_strongest e k t rows = fold (λ before row. join five (row_state e k t row) before) Unassign rows

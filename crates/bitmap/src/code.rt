@@ -1,10 +1,10 @@
 // A row's bits read and written, and the item that is made from a row.
-ghost use Rattle.std.specs.Prelude.{◌≡◌, ℕ, ◌+◌, ◌<◌, true, if◌then◌else◌, Decides, MatchOption};
+ghost use Rattle.std.specs.Prelude.{◌≡◌, ◌+◌, ◌<◌, true, if◌then◌else◌, Decides, MatchOption};
 ghost use Rattle.bits.specs.Bit.{bit};
 ghost use Rattle.model.specs.Allowed.{Allowed, is_allowed};
 ghost use Rattle.model.specs.Privileges.{bit as bit_of};
 ghost use Rattle.scales.specs.Five.{five};
-ghost use Rattle.bitmap.specs.Layout.{code_at, option_at, combination, is_code, decode, encode_as, cell_at, valid_at, ValidRow, DigitSet, CodeSet, CellSet};
+ghost use Rattle.bitmap.specs.Layout.{code_at, option_at, combination, decode, encode_as, cell_at, valid_at, ValidRow, DigitSet, CodeSet, CellSet};
 
 use crate::item::Item;
 use crate::pair::Pair;
@@ -39,7 +39,7 @@ impl Row {
     {
         let code = self.code(k);
         match k {
-            0..=7 => is_legal(code) && (!self.option(k) || code == 0b10000),
+            0..=7 => combination(code).is_some() && (!self.option(k) || code == 0b10000),
             16..=23 => code % 16 == 0,
             _ => code == 0,
         }
@@ -75,7 +75,7 @@ fn option_bit(k: u8) -> u32
 fn combination(code: u32) -> Option<(FiveState, Orientation)>
     ensures { result ≡ combination code }
 {
-    let pair = match code {
+    Some(match code {
         0b00000 => (FiveState::Unassign, Orientation::Up),
         0b10000 => (FiveState::Grant, Orientation::Up),
         0b01000 => (FiveState::Taint, Orientation::Down),
@@ -85,14 +85,7 @@ fn combination(code: u32) -> Option<(FiveState, Orientation)>
         0b00101 => (FiveState::Suspend, Orientation::Neutral),
         0b00011 => (FiveState::Deny, Orientation::Neutral),
         _ => return None,
-    };
-    Some(pair)
-}
-
-fn is_legal(code: u32) -> bool
-    ensures { result ≡ is_code code }
-{
-    combination(code).is_some()
+    })
 }
 
 // The cell of a combination: an option stands only with grant.
@@ -165,22 +158,43 @@ impl Row {
     }
 }
 
+impl TryFrom<Row> for Item {
+    ghost use Rattle.bitmap.specs.Tables.{ItemOf};
+
+    type Error = Row;
+
+    ghost try_from_gives = { ItemOf };
+
+    // The item that a row is, if all its bits are valid; else the row is given back.
+    fn try_from(row: Row) -> Result<Item, Row> {
+        if row.is_valid() {
+            Ok(Item { row })
+        } else {
+            Err(row)
+        }
+    }
+}
+
+impl From<Item> for Row {
+    ghost from_gives = { λ item row. row ≡ item.row };
+
+    fn from(item: Item) -> Row {
+        item.row
+    }
+}
+
 impl Item {
     // The item that a row is, if all its bits are valid.
     pub fn from_row(row: Row) -> Option<Item>
         ensures { MatchOption result (ValidRow row → ⊥) (λ item. item.row ≡ row) }
     {
-        if row.is_valid() {
-            Some(Item { row })
-        } else {
-            None
-        }
+        Item::try_from(row).ok()
     }
 
     pub fn to_row(self) -> Row
         ensures { result ≡ self.row }
     {
-        self.row
+        self.into()
     }
 
     // The cell of a privilege.
@@ -192,7 +206,8 @@ impl Item {
 
     // The item with a privilege's cell changed, if the cell is an allowed one.
     pub fn with(self, privilege: Privilege, cell: &Cell<FiveState>) -> Option<Item>
-        ensures { MatchOption result (Allowed five cell.now → ⊥) (λ item. CellSet self.row item.row (bit_of privilege) cell.now) }
+        ensures { MatchOption result (Allowed five cell.now → ⊥)
+            (λ item. CellSet self.row item.row (bit_of privilege) cell.now) }
     {
         if cell.is_allowed() {
             Some(self.with_cell(privilege, *cell))

@@ -1,15 +1,14 @@
 // What the items of one object answer, and how one of them is rewritten.
-ghost use Rattle.std.specs.Prelude.{◌≡◌, ℕ, ◌<◌, true, false, ◌&&◌, not, length, replicate, fold, count_by, position, ◌==◌, slice_set};
+ghost use Rattle.std.specs.Prelude.{◌≡◌, ◌<◌, true, not, length, replicate, count_by, position, slice_set};
 ghost use Rattle.std.specs.List.{list_any};
 ghost use Rattle.model.specs.Allowed.{is_allowed};
 ghost use Rattle.model.specs.Joining.{joining};
 ghost use Rattle.model.specs.Privileges.{bit as bit_of};
 ghost use Rattle.model.specs.States.{join as join_of};
 ghost use Rattle.model.specs.Stores.{assigned};
-ghost use Rattle.scales.specs.declared.five.FiveState.TheVariants.{Unassign};
 ghost use Rattle.scales.specs.Five.{five};
-ghost use Rattle.bitmap.specs.Items.{pair_of, item_in_use, ItemSet, Written};
-ghost use Rattle.bitmap.specs.Tables.{empty_row, row_at, row_in_use, row_is_of, row_is_for, row_option, row_state, items_of};
+ghost use Rattle.bitmap.specs.Items.{pair_of, RoomFor, ItemSet, Written};
+ghost use Rattle.bitmap.specs.Tables.{empty_row, row_at, row_in_use, row_is_of, row_is_for, row_option, row_state, rows_strongest, items_of};
 
 use crate::item::Item;
 use crate::object_items::ObjectItems;
@@ -27,6 +26,20 @@ fn is_assigned(state: FiveState) -> bool
 }
 
 impl Row {
+    fn empty() -> Row
+        ensures { result ≡ empty_row }
+    {
+        Row {
+            granter: 0,
+            grantee: 0,
+            acl: 0,
+            taint: 0,
+            suspend: 0,
+            deny: 0,
+            neut: 0,
+        }
+    }
+
     // Whether any of its cells is not unassign.
     fn is_in_use(&self) -> bool
         ensures { result ≡ row_in_use self.now }
@@ -34,17 +47,11 @@ impl Row {
         (0..8).any(|k| is_assigned(self.cell(k).state))
     }
 
-    fn has_pair(&self, pair: Pair) -> bool
-        ensures { result ≡ (self.now.granter == pair.granter && self.now.grantee == pair.grantee) }
-    {
-        self.granter == pair.granter && self.grantee == pair.grantee
-    }
-
     // Whether it is in use for a pair.
     fn is_of(&self, pair: Pair) -> bool
         ensures { result ≡ row_is_of pair.granter pair.grantee self.now }
     {
-        self.is_in_use() && self.has_pair(pair)
+        self.is_in_use() && self.granter == pair.granter && self.grantee == pair.grantee
     }
 
     // Whether it is in use for a grantee.
@@ -76,16 +83,9 @@ impl ObjectItems {
     pub(crate) fn empty() -> ObjectItems
         ensures { result.rows ≡ replicate 16 empty_row }
     {
-        let row = Row {
-            granter: 0,
-            grantee: 0,
-            acl: 0,
-            taint: 0,
-            suspend: 0,
-            deny: 0,
-            neut: 0,
-        };
-        ObjectItems { rows: [row; 16] }
+        ObjectItems {
+            rows: [Row::empty(); 16],
+        }
     }
 
     // The item of a pair, if the pair is in use.
@@ -122,7 +122,7 @@ impl ObjectItems {
         privilege: Privilege,
         orientation: Orientation,
     ) -> FiveState
-        ensures { result ≡ fold (λ before row. join_of five (row_state grantee (bit_of privilege) orientation row) before) Unassign self.now.rows }
+        ensures { result ≡ rows_strongest grantee (bit_of privilege) orientation self.now.rows }
     {
         self.rows.iter().fold(FiveState::Unassign, |before, row| {
             joined(row.state_for(grantee, privilege, orientation), before)
@@ -140,24 +140,23 @@ impl ObjectItems {
         }
     }
 
-    // Gives item i to the pair, with one cell changed. Its row alone is lent: the fifteen others
-    // stay.
+    // Gives item i to the pair, with one cell changed.
     fn put(&mut self, i: usize, pair: Pair, privilege: Privilege, cell: Cell<FiveState>)
         requires item { i < 16 }
         requires allowed { is_allowed five cell ≡ true }
-        requires was { item_in_use (joining five) (items_of self.old.rows) i ≡ true → (items_of self.old.rows).pair i ≡ pair_of pair.granter pair.grantee }
-        requires only { (a : ℕ) → a < 16 → item_in_use (joining five) (items_of self.old.rows) a ≡ true → (items_of self.old.rows).pair a ≡ pair_of pair.granter pair.grantee → a ≡ i }
-        ensures { ItemSet (items_of self.old.rows) (items_of self.new.rows) i (pair_of pair.granter pair.grantee) (bit_of privilege) cell }
+        requires room { RoomFor (joining five) (items_of self.old.rows) i (pair_of pair.granter pair.grantee) }
+        ensures { ItemSet (items_of self.old.rows) (items_of self.new.rows) i
+            (pair_of pair.granter pair.grantee) (bit_of privilege) cell }
     {
         let item = self.item(i).with_cell(privilege, cell).given_to(pair);
-        let row = &mut self.rows[i];
-        row.put_back(item);
+        put_back(&mut self.rows, i, item);
     }
 
     // Writes one cell of a pair, if it is unassign, the pair is in use or an item is free.
     pub(crate) fn write(&mut self, pair: Pair, privilege: Privilege, cell: Cell<FiveState>) -> bool
         requires { is_allowed five cell ≡ true }
-        ensures { Written five (items_of self.old.rows) (items_of self.new.rows) (pair_of pair.granter pair.grantee) (bit_of privilege) cell result }
+        ensures { Written five (items_of self.old.rows) (items_of self.new.rows)
+            (pair_of pair.granter pair.grantee) (bit_of privilege) cell result }
     {
         if let Some(i) = self.position(pair) {
             self.put(i, pair, privilege, cell);
@@ -172,6 +171,15 @@ impl ObjectItems {
         self.put(i, pair, privilege, cell);
         true
     }
+}
+
+// Lends row i alone, which becomes the item: the others stay.
+fn put_back(rows: &mut [Row], i: usize, item: Item)
+    requires { i < length rows.old }
+    ensures { rows.new ≡ slice_set rows.old i item.row }
+{
+    let row = &mut rows[i];
+    row.put_back(item);
 }
 
 // The next state, joined with those before it.

@@ -1,5 +1,5 @@
 // The numbers of principals: users first, then roles.
-ghost use Rattle.std.specs.Prelude.{◌≡◌, ◌<◌, ◌&&◌, false, true, IfSome, is_some, MatchOption};
+ghost use Rattle.std.specs.Prelude.{◌≡◌, ◌<◌, ◌&&◌, IfSome, is_some};
 ghost use Rattle.model.specs.Principals.{in_range};
 ghost use Rattle.model.specs.Places.{number as number_of};
 

@@ -90,7 +90,7 @@ impl Store<FiveState> for BitmapTable {
         if !is_object(place.object) || !cell.is_allowed() {
             return false;
         }
-        // No `get_mut`: of an array it says nothing of the element.
+        // By an index: of what is written through a `get_mut` of an array a proof learns nothing.
         self.objects[usize::from(place.object)].write(pair, place.privilege, *cell)
     }
 

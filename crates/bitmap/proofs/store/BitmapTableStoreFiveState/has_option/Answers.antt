@@ -19,4 +19,4 @@ returns c =
     let there = and_parts (object_in_range a.right.object) (in_range a.grantee) (sym found.in_range) in
     c.has_option.ensures
     ∙ ap (λ (e : ℕ). list_any (row_option e (bit a.right.privilege)) c.in-Some.items.now.rows) found.grantee
-    ∙ option_told a.self.now.objects a.right.object there.0 c.in-Some.items.now.rows found.rows c.in-Some.items.now.sixteen a.grantee a.right.privilege there.1
+    ∙ option_told a.self.now.objects a.right.object there.0 c.in-Some.items.now found.rows a.grantee a.right.privilege there.1

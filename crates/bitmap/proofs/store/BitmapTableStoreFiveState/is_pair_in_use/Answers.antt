@@ -27,4 +27,4 @@ returns c =
     ∙ ap is_some c.position.ensures
     ∙ ap (λ (g : ℕ). is_some (position (row_is_of g c.in-Some-Some.pair.grantee) rows)) pair.granter
     ∙ ap (λ (e : ℕ). is_some (position (row_is_of (number a.granter) e) rows)) pair.grantee
-    ∙ use_told a.self.now.objects a.object (sym items.in_range) rows items.rows c.in-Some-Some.items.now.sixteen a.granter a.grantee (sym pair.in_range)
+    ∙ use_told a.self.now.objects a.object (sym items.in_range) c.in-Some-Some.items.now items.rows a.granter a.grantee (sym pair.in_range)

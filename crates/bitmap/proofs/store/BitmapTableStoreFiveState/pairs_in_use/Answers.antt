@@ -8,4 +8,4 @@ returns-in-None c = sym ((outside c.args.self.now.objects).no_pairs c.args.objec
 pub returns-in-Some : goal.returns-in-Some
 returns-in-Some c =
     let found = c.in-Some.ensures in
-    c.count.ensures ∙ count_told c.args.self.now.objects c.args.object (sym found.in_range) c.in-Some.items.now.rows found.rows c.in-Some.items.now.sixteen
+    c.count.ensures ∙ count_told c.args.self.now.objects c.args.object (sym found.in_range) c.in-Some.items.now found.rows

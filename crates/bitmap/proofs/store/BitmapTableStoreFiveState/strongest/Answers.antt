@@ -1,11 +1,8 @@
-use Rattle.std.proofs.Common.{ℕ, fold, sym, ap, ◌∙◌}
+use Rattle.std.proofs.Common.{ℕ, sym, ap, ◌∙◌}
 use Rattle.std.proofs.lemmas.Bool.{and_parts}
 use Rattle.model.specs.Principals.{in_range, object_in_range}
 use Rattle.model.specs.Privileges.{bit}
-use Rattle.scales.specs.declared.five.FiveState.TheVariants.{Unassign}
-use Rattle.scales.specs.Five.{five}
-use Rattle.model.specs.States.{join}
-use Rattle.bitmap.specs.Tables.{row_state}
+use Rattle.bitmap.specs.Tables.{rows_strongest}
 use Rattle.bitmap.proofs.TableLaws.{outside, strongest_told}
 use Rattle.bitmap.proofs.store.BitmapTableStoreFiveState.strongest.Goals as goal
 
@@ -20,5 +17,5 @@ returns c =
     let found = c.in-Some.ensures in
     let there = and_parts (object_in_range a.right.object) (in_range a.grantee) (sym found.in_range) in
     c.strongest.ensures
-    ∙ ap (λ (e : ℕ). fold (λ before row. join five (row_state e (bit a.right.privilege) a.orientation row) before) Unassign c.in-Some.items.now.rows) found.grantee
-    ∙ strongest_told a.self.now.objects a.right.object there.0 c.in-Some.items.now.rows found.rows c.in-Some.items.now.sixteen a.grantee a.right.privilege there.1 a.orientation
+    ∙ ap (λ (e : ℕ). rows_strongest e (bit a.right.privilege) a.orientation c.in-Some.items.now.rows) found.grantee
+    ∙ strongest_told a.self.now.objects a.right.object there.0 c.in-Some.items.now found.rows a.grantee a.right.privilege there.1 a.orientation
