@@ -13,6 +13,7 @@ use grammar::keyword::Keyword;
 use grammar::sentence::{Command, Restriction, Sentence};
 use model::kind::Kind;
 use model::principal::Principal;
+use model::privilege::Privilege;
 use model::right::Right;
 use std::alloc::{AllocError, Global};
 
@@ -36,15 +37,16 @@ fn object_body(heap: Global, object: u8, kind: Kind, owner: u8) -> Result<Body, 
         .principal(Principal::User(owner))
 }
 
-fn grant_body(
+fn granted(
     heap: Global,
-    right: Right,
+    privilege: Privilege,
+    object: u8,
     grantee: Principal,
     option: bool,
 ) -> Result<Body, AllocError>
-    ensures { IfOk result (λ b. b.bytes.items ≡ join (spell_of (sentence_of.Grant right.privilege right.object grantee option))) }
+    ensures { IfOk result (λ b. b.bytes.items ≡ join (spell_of (sentence_of.Grant privilege object grantee option))) }
 {
-    let body = Body::of(heap, Command::Grant)?.right(right, b"TO", grantee)?;
+    let body = Body::of(heap, Command::Grant)?.right(Right { object, privilege }, b"TO", grantee)?;
     if option {
         body.word(b"OPTION")
     } else {
@@ -52,16 +54,21 @@ fn grant_body(
     }
 }
 
-fn restrict_body(
+fn restricted(
     heap: Global,
     restriction: Restriction,
-    right: Right,
+    privilege: Privilege,
+    object: u8,
     grantee: Principal,
     neutral: bool,
 ) -> Result<Body, AllocError>
-    ensures { IfOk result (λ b. b.bytes.items ≡ join (spell_of (sentence_of.Restrict restriction right.privilege right.object grantee neutral))) }
+    ensures { IfOk result (λ b. b.bytes.items ≡ join (spell_of (sentence_of.Restrict restriction privilege object grantee neutral))) }
 {
-    let body = Body::of(heap, Command::Restrict(restriction))?.right(right, b"TO", grantee)?;
+    let body = Body::of(heap, Command::Restrict(restriction))?.right(
+        Right { object, privilege },
+        b"TO",
+        grantee,
+    )?;
     if neutral {
         body.word(b"NEUT")?.word(b"ORNT")
     } else {
@@ -87,20 +94,14 @@ pub fn spell(heap: Global, sentence: Sentence) -> Result<Vec<u8>, AllocError>
             object,
             grantee,
             option,
-        } => grant_body(heap, Right { object, privilege }, grantee, option)?,
+        } => granted(heap, privilege, object, grantee, option)?,
         Sentence::Restrict {
             restriction,
             privilege,
             object,
             grantee,
             neutral,
-        } => restrict_body(
-            heap,
-            restriction,
-            Right { object, privilege },
-            grantee,
-            neutral,
-        )?,
+        } => restricted(heap, restriction, privilege, object, grantee, neutral)?,
         Sentence::Revoke {
             privilege,
             object,
