@@ -3,12 +3,13 @@ ghost use Rattle.std.specs.Prelude.{◌≡◌, MatchResult};
 ghost use Rattle.notation.specs.Adding.{Taken, NotTaken};
 ghost use Rattle.notation.specs.Results.{Composed};
 ghost use Rattle.notation.specs.Refusing.{Uncomposed};
+ghost use Rattle.notation.specs.declared.composing.ComposeFault.TheVariants.{Memory};
 ghost use Rattle.notation.specs.declared.line.LineFault.TheVariants.{Unstated};
 
 use crate::bodies::Bodies;
 use crate::line::{LineFault, add_line};
 use crate::split::{ends_line, is_skipped, statement};
-use std::alloc::Global;
+use std::alloc::{AllocError, Global};
 
 // Why a text was not composed.
 #[derive(Clone, Copy, Debug, PartialEq, Eq)]
@@ -17,6 +18,15 @@ pub enum ComposeFault {
     Line(usize),
     // there is no memory for the records
     Memory,
+}
+
+// For the `?` of a caller that needs memory of its own.
+impl From<AllocError> for ComposeFault {
+    ghost from_gives = { λ _ r. r ≡ Memory };
+
+    fn from(_e: AllocError) -> ComposeFault {
+        ComposeFault::Memory
+    }
 }
 
 // The records that the lines of a text state, one after the other.
