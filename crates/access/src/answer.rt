@@ -14,7 +14,8 @@ use model::scale::Scale;
 use model::store::Store;
 
 impl<T, G: Graph> Access<'_, T, G> {
-    // What was assigned to a principal in one orientation.
+    // What was assigned to a principal in one orientation. Right and principal stay two parameters:
+    // the same right is asked about for the principal and for each role.
     fn towards<S: Scale>(&self, right: Right, principal: Principal, orientation: Orientation) -> S
     where
         T: Store<S>,

@@ -6,7 +6,8 @@ ghost use Rattle.bits.specs.Bit.{bit};
 
 pub const WIDTH: u32 = 32;
 
-// Bit k of x, 0 or 1; it is 0 past the width.
+// Bit k of x, 0 or 1; it is 0 past the width. A number, since digits of several words are added up
+// to one code.
 pub fn digit(x: u32, k: u32) -> u32
     ensures value { result ≡ bit x k }
     ensures binary { result < 2 }

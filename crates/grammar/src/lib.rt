@@ -18,7 +18,8 @@ use phrase::Phrase;
 use sentence::{Command, Misworded, Sentence};
 use words::iter::Words;
 
-// The sentence of a command, from the words after its first.
+// The sentence of a command, from the words after its first. A `match` and no table of functions:
+// what each form promises names its command.
 fn form(command: Command, words: Phrase) -> Result<Sentence, Misworded>
     ensures { Continues command words.entry result }
 {

@@ -23,7 +23,8 @@ pub enum Command {
     Check,
 }
 
-// What a body says.
+// What a body says. Privilege and object are fields here and no `Right`: the statements of the
+// history read them by name, in the order in which a sentence has them.
 #[derive(Clone, Copy, Debug, PartialEq, Eq)]
 pub enum Sentence {
     Role {

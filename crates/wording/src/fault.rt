@@ -44,6 +44,8 @@ impl From<LargeNumber> for WordingFault {
     }
 }
 
+// The same three questions as of a reading fault, and no trait of them: no code asks them of any
+// fault whatever.
 impl WordingFault {
     // The number of the question that was answered no.
     pub fn number(&self) -> u8
