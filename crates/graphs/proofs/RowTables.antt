@@ -8,7 +8,7 @@ use Rattle.model.specs.declared.principal.Principal.TheVariants.{User, Role}
 use Rattle.model.specs.Principals.{in_range}
 use Rattle.model.specs.Graphs.{same_link}
 use Rattle.model.specs.Places.{same_principal}
-use Rattle.model.proofs.Chains.{same_true, same_eq}
+use Rattle.model.proofs.Numbering.{principal_same, same_principals}
 use Rattle.model.specs.Graphs.{takes_link, with_link, without_link}
 use Rattle.model.proofs.SoundGraphs.{link_taken}
 use Rattle.graphs.specs.declared.bit_rows.BitRows.{BitRows}
@@ -32,14 +32,14 @@ unfolding in_rows
 changed rows u p k x s w =
     ⊎_elim
     (λ (q : same_principal u p ≡ true).
-    let e : u ≡ p = same_true u p q in
+    let e : u ≡ p = principal_same u p q in
     let l : row_of u < length rows = omega (arith, row_in_table u w) in
     ap (λ y. (in_range p && ltb k 64) && bit_at y k) (ap (λ y. get_or (set rows (row_of u) x) (row_of y) 0) (sym e) ∙ get_or-set_same rows (row_of u) x 0 l)
     ∙ ap (λ b. cond b ((in_range p && ltb k 64) && bit_at x k) ((in_range p && ltb k 64) && bit_at (get_or rows (row_of p) 0) k)) (sym q))
     (λ (q : same_principal u p ≡ false).
     ⊎_elim
     (λ (v : in_range p ≡ true).
-    let ne : row_of p ≢ row_of u = λ z. both_ways _ q (same_eq u p (row_same u p w v (sym z))) in
+    let ne : row_of p ≢ row_of u = λ z. both_ways _ q (same_principals u p (row_same u p w v (sym z))) in
     ap (λ y. (in_range p && ltb k 64) && bit_at y k) (get_or-set_other rows (row_of u) (row_of p) x 0 ne)
     ∙ ap (λ b. cond b ((in_range p && ltb k 64) && bit_at x k) ((in_range p && ltb k 64) && bit_at (get_or rows (row_of p) 0) k)) (sym q))
     (λ (v : in_range p ≡ false).
@@ -61,7 +61,7 @@ rows_with rows u r x s w l h = fun_ext (λ p. fun_ext (λ k. changed rows u p k 
   where
     at_case : (p : Principal) (k : ℕ) (b : Bool) → same_principal u p ≡ b → cond b ((in_range p && ltb k 64) && bit_at x k) (in_rows rows p k) ≡ ((b && eqb r k) || in_rows rows p k)
     at_case p k true q =
-        let e : u ≡ p = same_true u p q in
+        let e : u ≡ p = principal_same u p q in
         ap (λ y. (in_range p && ltb k 64) && y) (h k ∙ ap (λ y. eqb r k || bit_at (get_or rows (row_of y) 0) k) e)
         ∙ more (in_range p) (ltb k 64) (eqb r k) (bit_at (get_or rows (row_of p) 0) k) (λ z. and_from _ _ (ap in_range (sym e) ∙ w) (lt-ltb k 64 (omega (arith, eqb-true r k z))))
     at_case p k false q = refl
@@ -79,7 +79,7 @@ rows_without rows u r x s w h = fun_ext (λ p. fun_ext (λ k. changed rows u p k
   where
     at_case : (p : Principal) (k : ℕ) (b : Bool) → same_principal u p ≡ b → cond b ((in_range p && ltb k 64) && bit_at x k) (in_rows rows p k) ≡ (not (b && eqb r k) && in_rows rows p k)
     at_case p k true q =
-        let e : u ≡ p = same_true u p q in
+        let e : u ≡ p = principal_same u p q in
         less (in_range p && ltb k 64) (eqb r k) (bit_at (get_or rows (row_of p) 0) k) (bit_at x k)
         (λ z. h k (ltb-true k 64 (and_parts _ _ z).1) ∙ ap (λ y. not (eqb r k) && bit_at (get_or rows (row_of y) 0) k) e)
     at_case p k false q = refl

@@ -1,26 +1,18 @@
 -- Principals, levels and chains of links.
-use Rattle.std.proofs.Common.{◌≡◌, ℕ, ◌<◌, Bool, true, ◌⊎◌, Some, None, Decides, Option, sym, refl, ap, ◌∙◌, subst, inl, inr, ⊎_elim, eq-eqb, eqb-true, rules}
+use Rattle.std.proofs.Common.{◌≡◌, ℕ, ◌<◌, Bool, true, ◌⊎◌, Some, None, Decides, Option, sym, refl, ap, ◌∙◌, subst, inl, inr, ⊎_elim, eq-eqb, rules}
 use borrow.Author.Tests.{clash}
 use Rattle.model.specs.declared.principal.Principal.{Principal}
+use Rattle.model.proofs.Numbering.{principal_same, same_principals}
 use Rattle.model.specs.declared.principal.Principal.TheVariants.{User, Role}
 use Rattle.model.specs.Places.{same_principal}
 use Rattle.model.specs.Graphs.{RoleGraph, smaller, falls, level_of, Chain, stay, via, Reaches, Above}
-
-pub same_true : (a b : Principal) → same_principal a b ≡ true → a ≡ b
-same_true (User m) (User n) e = ap User (eqb-true m n e)
-same_true (User m) (Role n) e = absurd (clash e)
-same_true (Role m) (User n) e = absurd (clash e)
-same_true (Role m) (Role n) e = ap Role (eqb-true m n e)
 
 pub same_self : (a : Principal) → same_principal a a ≡ true
 same_self (User n) = eq-eqb n n refl
 same_self (Role n) = eq-eqb n n refl
 
-pub same_eq : (a b : Principal) → a ≡ b → same_principal a b ≡ true
-same_eq a b e = search rules
-
 pub decides_same : (a b : Principal) → Decides (same_principal a b) (a ≡ b)
-decides_same a b = (same_true a b, same_eq a b)
+decides_same a b = (principal_same a b, same_principals a b)
 
 -- a chain between two that differ begins with a link
 pub first_link : {linked : Principal → ℕ → Bool} {a b : Principal} → Chain linked a b → (a ≡ b) ⊎ ((r : ℕ) × (linked a r ≡ true) × Chain linked (Role r) b)

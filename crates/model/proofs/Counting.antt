@@ -95,14 +95,6 @@ pub count_nothing : (p : ℕ → Bool) → count_below 0 p ≡ 0
 unfolding count_below
 count_nothing p = refl
 
-pub any_more : (n : ℕ) (p : ℕ → Bool) → any_below (n + 1) p ≡ (p n || any_below n p)
-unfolding any_below
-any_more n p = search rules
-
-pub any_nothing : (p : ℕ → Bool) → any_below 0 p ≡ false
-unfolding any_below
-any_nothing p = refl
-
 -- two questions with one answer
 pub any_iff : (n m : ℕ) (p q : ℕ → Bool) → ((k : ℕ) → k < n → p k ≡ true → any_below m q ≡ true) → ((k : ℕ) → k < m → q k ≡ true → any_below n p ≡ true) → any_below n p ≡ any_below m q
 any_iff n m p q there back =

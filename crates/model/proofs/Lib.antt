@@ -5,6 +5,7 @@ pub mod Chains
 pub mod SoundGraphs
 pub mod Counting
 pub mod JoinFolds
+pub mod FoldLists
 pub mod Numbering
 pub mod Outside
 pub mod Puts

@@ -9,7 +9,8 @@ use Rattle.model.specs.Folds.{one_if}
 use Rattle.model.specs.LinkCount.{sum_below, links_from, link_count}
 use Rattle.model.specs.Graphs.{same_link}
 use Rattle.model.specs.Places.{same_principal}
-use Rattle.model.proofs.Chains.{same_true, same_self}
+use Rattle.model.proofs.Chains.{same_self}
+use Rattle.model.proofs.Numbering.{principal_same}
 
 -- f and g agree below n
 sum_same : (f g : ℕ → ℕ) (n : ℕ) → ((k : ℕ) → k < n → g k ≡ f k) → sum_below g n ≡ sum_below f n
@@ -87,4 +88,4 @@ count_less linked u r w l e =
     there : (p : Principal) (k : ℕ) → same_link u r p k ≡ true → linked p k ≡ true
     there p k h =
         let a = and_parts _ _ h in
-        ap (λ x. linked x k) (sym (same_true u p a.0)) ∙ ap (λ x. linked u x) (sym (eqb-true r k a.1)) ∙ e
+        ap (λ x. linked x k) (sym (principal_same u p a.0)) ∙ ap (λ x. linked u x) (sym (eqb-true r k a.1)) ∙ e

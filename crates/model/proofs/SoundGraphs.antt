@@ -6,7 +6,8 @@ use Rattle.model.specs.declared.principal.Principal.TheVariants.{User, Role}
 use Rattle.model.specs.Principals.{in_range, user_level}
 use Rattle.model.specs.LinkCount.{link_count}
 use Rattle.model.specs.Graphs.{RoleGraph, Sound, same_link, falls, takes_level, takes_link, with_level, with_link, without_link}
-use Rattle.model.proofs.Chains.{same_true, smaller_right}
+use Rattle.model.proofs.Chains.{smaller_right}
+use Rattle.model.proofs.Numbering.{principal_same}
 use Rattle.model.proofs.LinkCounts.{count_more, count_less}
 
 none_some : {A : Type 0} (n : ℕ) → None ≡ Some n → A
@@ -79,7 +80,7 @@ sound_with_link full g p r s e =
           ⊎_elim
           (λ (z : same_link p r q k ≡ true).
           let a = and_parts _ _ z in
-          ap (λ y. falls g.level y k) (sym (same_true p q a.0)) ∙ ap (λ y. falls g.level p y) (sym (eqb-true r k a.1)) ∙ t.fall)
+          ap (λ y. falls g.level y k) (sym (principal_same p q a.0)) ∙ ap (λ y. falls g.level p y) (sym (eqb-true r k a.1)) ∙ t.fall)
           (λ (z : g.linked q k ≡ true). s.falling q k z)
           (or_cases (same_link p r q k) (g.linked q k) h);
       few = omega (arith, t.few, count_with_link full g p r s e);

@@ -22,7 +22,8 @@ pub trait Graph {
     fn level(&self, principal: Principal) -> Option<u8>
         ensures { result ≡ level_of (meaning self.now).level principal };
 
-    // Adds the link from a principal to a role below it.
+    // Adds the link from a principal to a role below it. The two ends stand apart in each call: who
+    // asks has them apart, as fields of a sentence or as a role that is tried.
     fn add(&mut self, upper: Principal, lower: u8) -> bool
         ensures answer { result ≡ takes_link (full self.old) (meaning self.old) upper lower }
         ensures after { meaning self.new ≡ (if takes_link (full self.old) (meaning self.old) upper lower then with_link (meaning self.old) upper lower else meaning self.old) }

@@ -1,4 +1,5 @@
-ghost use Rattle.std.specs.Prelude.{◌≡◌};
+ghost use Rattle.std.specs.Prelude.{◌≡◌, ◌<◌, is_some, IfSome};
+ghost use Rattle.model.specs.Places.{number as number_of};
 ghost use Rattle.model.specs.Principals.{in_range, user_level, role_level_in_range};
 
 pub const USERS: u8 = 64;
@@ -23,6 +24,19 @@ impl Principal {
         match self {
             Principal::User(user) => user < USERS,
             Principal::Role(role) => role < ROLES,
+        }
+    }
+
+    // The number among all principals, users first and then roles, if there can be such a one.
+    pub fn number(self) -> Option<u8>
+        ensures in_range { is_some result ≡ in_range self }
+        ensures value { IfSome result (λ n. n ≡ number_of self) }
+        ensures below { IfSome result (λ n. n < 128) }
+    {
+        match self {
+            Principal::User(user) if user < USERS => Some(user),
+            Principal::Role(role) if role < ROLES => Some(USERS + role),
+            _ => None,
         }
     }
 }

@@ -11,7 +11,8 @@ pub enum StateCommand {
     Deny,
 }
 
-// A scale of states. Whoever implements it owes the laws.
+// A scale of states. Whoever implements it owes the laws. It asks for no `Ord` and no `Eq`: to
+// override is the one order that the laws speak of, and equality follows from it.
 pub trait Scale: Copy {
     ghost states: { States Self };
 

@@ -73,8 +73,8 @@ pub fn tells_alike<S: Scale, A: Store<S>, B: Store<S>>(
         == b.is_pair_in_use(object, granter, grantee);
     let right = Right { object, privilege };
     let option = a.has_option(right, grantee) == b.has_option(right, grantee);
-    // `same`, since a scale has an order and no `==`
     let strongest = a.strongest(right, grantee, orientation);
     let other = b.strongest(right, grantee, orientation);
+    // `same`, since a scale has an order and no `==`
     memory & pairs & used & option & strongest.same(other)
 }
