@@ -1,6 +1,6 @@
 -- The words of a body, and how numbers, principals and objects are written.
-use Rattle.std.specs.Prelude.{◌≡◌, ℕ, zero, suc, ◌+◌, ◌/◌, ◌%◌, ◌≤◌, if◌then◌else◌, List, [], ◌∷◌, ◌++◌, length, ◌==◌, nat_lt}
-use Rattle.std.specs.List.{onto_first}
+use Rattle.std.specs.Prelude.{◌≡◌, ℕ, zero, suc, ◌+◌, ◌/◌, ◌%◌, ◌≤◌, if◌then◌else◌, List, [], ◌∷◌, length, ◌==◌, nat_lt}
+use Rattle.std.specs.List.{slice_split, join_with_byte}
 use Rattle.model.specs.declared.principal.Principal.{Principal}
 use Rattle.model.specs.declared.principal.Principal.TheVariants.{User, Role}
 use Rattle.words.specs.declared.token.Token.{Token}
@@ -42,8 +42,7 @@ Tells w at (token.Number s o n) = (s.now ≡ w) × (o ≡ at) × (n ≤ 99) × (
 
 -- the words of a body: each space ends one
 unfoldable pub words : List ℕ → List (List ℕ)
-words [] = [] ∷ []
-words (b ∷ bs) = if b == 32 then [] ∷ words bs else onto_first b (words bs)
+words bs = slice_split (λ b. b == 32) bs
 
 -- the words from an offset on: none past the end
 unfoldable pub words_from : List ℕ → ℕ → List (List ℕ)
@@ -53,9 +52,7 @@ words_from (b ∷ bs) (suc n) = words_from bs n
 
 -- the words with one space between each and the next
 abbrev pub join : List (List ℕ) → List ℕ
-join [] = []
-join (w ∷ []) = w
-join (w ∷ x ∷ ws) = w ++ (32 ∷ join (x ∷ ws))
+join ws = join_with_byte 32 ws
 
 abbrev pub text : Token → List ℕ
 text (token.Keyword s o) = s.now
