@@ -4,16 +4,12 @@ use Rattle.std.specs.List.{AllByRecursion}
 use Rattle.std.proofs.lemmas.Bool.{ne_eqb}
 use Rattle.std.proofs.lemmas.List.Elements.{All-weaker, All-from_recursion}
 use Rattle.std.proofs.lemmas.List.Splits.{join_with_byte-slice_split, length-slice_split, slice_split_at, slice_split_none}
-use Rattle.words.specs.Words.{words, words_from, join}
+use Rattle.words.specs.Words.{words, join}
 
 -- a body has a word
 pub some_word : (bs : List ℕ) → words bs ≡ [] → ⊥
 unfolding words
 some_word bs e = omega (arith, ap length e, length-slice_split (λ b. eqb b 32) bs)
-
-pub some_first : (bs : List ℕ) → words_from bs 0 ≡ [] → ⊥
-unfolding words_from
-some_first bs e = some_word bs e
 
 pub join_words : (bs : List ℕ) → join (words bs) ≡ bs
 unfolding words
