@@ -9,9 +9,10 @@ use crate::parts::Part;
 use crate::sentence::{Command, Misworded};
 use words::iter::Words;
 use words::token::Token;
+use words::word_at;
 
 // The words of a body that are still to be read. After an error it is read no further.
-#[derive(Clone, Copy)]
+#[derive(Drop)]
 pub(crate) struct Phrase<'a> {
     pub words: Words<'a>,
 }
@@ -57,10 +58,10 @@ impl<'a> Phrase<'a> {
     }
 
     // No word is left.
-    pub(crate) fn end(mut self) -> Result<(), Misworded>
-        ensures { MatchResult result (λ _. words_left self.entry.words ≡ []) (StraysAt [] self.entry) }
+    pub(crate) fn end(&self) -> Result<(), Misworded>
+        ensures { MatchResult result (λ _. words_left self.now.words ≡ []) (StraysAt [] self.now) }
     {
-        match self.words.next() {
+        match word_at(self.words.body, self.words.at) {
             None => Ok(()),
             Some(token) => Err(Misworded { at: token.at() }),
         }
@@ -70,11 +71,10 @@ impl<'a> Phrase<'a> {
     fn remaining(mut self, words: &[&[u8]]) -> Result<(), Misworded>
         ensures { MatchResult result (λ _. words_left self.entry.words ≡ texts words.now) (StraysAt (word_slots (texts words.now)) self.entry) }
     {
-        let Some((word, others)) = words.split_first() else {
-            return self.end();
-        };
-        self.keyword(word)?;
-        self.remaining(others)
+        for word in words {
+            self.keyword(word)?;
+        }
+        self.end()
     }
 
     // Whether the words of a tail follow, and no more; or none at all.

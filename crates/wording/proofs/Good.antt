@@ -1,6 +1,7 @@
 -- The words of a sentence in range: none has a space, and none has a number that is too large.
 use Rattle.std.proofs.Common.{◌≡◌, ℕ, ◌+◌, ◌/◌, ◌%◌, ◌<◌, ◌≤◌, Bool, true, false, not, ◌&&◌, eqb, ltb, List, [], ◌∷◌, get_or, codes, refl, ap, inl, inr, arith}
 use Rattle.std.specs.List.{AllByRecursion}
+use Rattle.std.proofs.ByRecursion.{All-weaker}
 use Rattle.std.proofs.lemmas.Bool.{and_parts, not-true, eq-eqb, ltb-true, cond_both, both_ways}
 use Rattle.model.specs.declared.kind.Kind.{Kind}
 use Rattle.model.specs.declared.kind.Kind.TheVariants as kind
@@ -121,16 +122,8 @@ good_words (sentence.Restrict r p o q false) h = (good (first (command.Restrict 
 good_words (sentence.Revoke p o q) h = (good (codes "REVOKE") refl, good_right p o (codes "FROM") q [] h refl tt)
 good_words (sentence.Check p o q) h = (good (codes "CHECK") refl, good_right p o (codes "FOR") q [] h refl tt)
 
-all_solid : (ws : List (List ℕ)) → AllByRecursion Good ws → AllByRecursion Solid ws
-all_solid [] h = tt
-all_solid (w ∷ ws) h = (h.0.0, all_solid ws h.1)
-
-all_fine : (ws : List (List ℕ)) → AllByRecursion Good ws → AllByRecursion Fine ws
-all_fine [] h = tt
-all_fine (w ∷ ws) h = (h.0.1, all_fine ws h.1)
-
 pub fine_words : (s : Sentence) → Within range s → AllByRecursion Fine (spell s)
-fine_words s h = all_fine (spell s) (good_words s h)
+fine_words s h = All-weaker Good Fine (λ w g. g.1) (spell s) (good_words s h)
 
 some_first : (s : Sentence) → spell s ≡ [] → ⊥
 some_first (sentence.Role r n) e = cc
@@ -144,4 +137,4 @@ some_first (sentence.Check p o q) e = cc
 
 -- the words of a sentence stand as they are when its body is cut
 pub read_back : (s : Sentence) → Within range s → words (join (spell s)) ≡ spell s
-read_back s h = words_join (spell s) (some_first s) (all_solid (spell s) (good_words s h))
+read_back s h = words_join (spell s) (some_first s) (All-weaker Good Solid (λ w g. g.0) (spell s) (good_words s h))

@@ -83,7 +83,9 @@ impl fmt::Display for WordingFault {
     ghost output = { λ fault. Some (shown fault) };
 
     fn fmt<W: fmt::Write>(&self, f: &mut fmt::Formatter<W>) -> fmt::Result {
-        write!(f, "no {} at {}", self.number(), self.place())
+        let number = self.number();
+        let place = self.place();
+        write!(f, "no {number} at {place}")
     }
 }
 

@@ -1,11 +1,11 @@
 -- The word at an offset, and the words after it.
 use Rattle.std.proofs.Common.{◌≡◌, ℕ, zero, suc, ◌+◌, ◌-◌, ◌<◌, ◌≤◌, ◌==◌, true, false, not, cond, List, [], ◌∷◌, Some, None, length, take, drop, nat_lt, unwrap_or, position, sym, refl, ap, ◌∙◌, subst, arith, length-drop, length-take-le, take_all}
-use Rattle.std.specs.List.{position_or_len, slice_range}
+use Rattle.std.specs.List.{onto_first, position_or_len, slice_range}
 use Rattle.std.proofs.lemmas.Bool.{cond_both, ltb-false}
 use Rattle.std.proofs.lemmas.List.Sums.{prefix_len-le-length}
 use Rattle.words.specs.declared.token.Token.{Token}
 use Rattle.words.specs.declared.token.Token.TheVariants as token
-use Rattle.words.specs.Words.{words, words_from, longer, text, place, Tells, WordAt}
+use Rattle.words.specs.Words.{words, words_from, text, place, Tells, WordAt}
 
 pub past : (bs : List ℕ) (at : ℕ) → length bs < at → words_from bs at ≡ []
 unfolding words_from
@@ -31,9 +31,9 @@ front : (xs : List ℕ) → words xs ≡ take (solid xs) xs ∷ words_from xs (s
 unfolding words words_from
 front [] = refl
 front (b ∷ xs) =
-    elim (b == 32) as (λ v. cond v ([] ∷ words xs) (longer b (words xs)) ≡ take (cond (not v) (1 + solid xs) 0) (b ∷ xs) ∷ words_from (b ∷ xs) (suc (cond (not v) (1 + solid xs) 0))) [
+    elim (b == 32) as (λ v. cond v ([] ∷ words xs) (onto_first b (words xs)) ≡ take (cond (not v) (1 + solid xs) 0) (b ∷ xs) ∷ words_from (b ∷ xs) (suc (cond (not v) (1 + solid xs) 0))) [
       | true ↦ refl
-      | false ↦ let e : suc (solid xs) ≡ 1 + solid xs = omega arith in subst (λ k. longer b (words xs) ≡ take k (b ∷ xs) ∷ words_from (b ∷ xs) (suc k)) e (ap (longer b) (front xs))
+      | false ↦ let e : suc (solid xs) ≡ 1 + solid xs = omega arith in subst (λ k. onto_first b (words xs) ≡ take k (b ∷ xs) ∷ words_from (b ∷ xs) (suc k)) e (ap (onto_first b) (front xs))
     ]
 
 cut : (bs : List ℕ) (at : ℕ) → at ≤ length bs → words_from bs at ≡ take (solid (drop at bs)) (drop at bs) ∷ words_from bs (at + solid (drop at bs) + 1)

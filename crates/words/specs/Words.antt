@@ -1,5 +1,6 @@
 -- The words of a body, and how numbers, principals and objects are written.
-use Rattle.std.specs.Prelude.{◌≡◌, ℕ, zero, suc, ◌+◌, ◌/◌, ◌%◌, ◌≤◌, cond, List, [], ◌∷◌, ◌++◌, length, ◌==◌, nat_lt}
+use Rattle.std.specs.Prelude.{◌≡◌, ℕ, zero, suc, ◌+◌, ◌/◌, ◌%◌, ◌≤◌, if◌then◌else◌, List, [], ◌∷◌, length, ◌==◌, nat_lt}
+use Rattle.std.specs.List.{slice_split, join_with_byte}
 use Rattle.model.specs.declared.principal.Principal.{Principal}
 use Rattle.model.specs.declared.principal.Principal.TheVariants.{User, Role}
 use Rattle.words.specs.declared.token.Token.{Token}
@@ -7,7 +8,7 @@ use Rattle.words.specs.declared.token.Token.TheVariants as token
 
 -- a number of one or two digits in base ten, with no leading zero
 abbrev pub digits : ℕ → List ℕ
-digits n = cond (nat_lt n 10) ((48 + n) ∷ []) ((48 + n / 10) ∷ (48 + n % 10) ∷ [])
+digits n = if nat_lt n 10 then (48 + n) ∷ [] else (48 + n / 10) ∷ (48 + n % 10) ∷ []
 
 abbrev pub Numeral : List ℕ → Type 0
 Numeral w = (n : ℕ) × (n ≤ 99) × (w ≡ digits n)
@@ -39,15 +40,9 @@ Tells w at (token.Principal s o q) = (s.now ≡ w) × (o ≡ at) × (index q ≤
 Tells w at (token.Object s o n) = (s.now ≡ w) × (o ≡ at) × (n ≤ 99) × (w ≡ object_word n)
 Tells w at (token.Number s o n) = (s.now ≡ w) × (o ≡ at) × (n ≤ 99) × (w ≡ digits n)
 
--- a byte in front of the first word
-abbrev pub longer : ℕ → List (List ℕ) → List (List ℕ)
-longer b [] = (b ∷ []) ∷ []
-longer b (w ∷ ws) = (b ∷ w) ∷ ws
-
 -- the words of a body: each space ends one
 unfoldable pub words : List ℕ → List (List ℕ)
-words [] = [] ∷ []
-words (b ∷ bs) = cond (b == 32) ([] ∷ words bs) (longer b (words bs))
+words bs = slice_split (λ b. b == 32) bs
 
 -- the words from an offset on: none past the end
 unfoldable pub words_from : List ℕ → ℕ → List (List ℕ)
@@ -57,9 +52,7 @@ words_from (b ∷ bs) (suc n) = words_from bs n
 
 -- the words with one space between each and the next
 abbrev pub join : List (List ℕ) → List ℕ
-join [] = []
-join (w ∷ []) = w
-join (w ∷ x ∷ ws) = w ++ (32 ∷ join (x ∷ ws))
+join ws = join_with_byte 32 ws
 
 abbrev pub text : Token → List ℕ
 text (token.Keyword s o) = s.now

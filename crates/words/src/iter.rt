@@ -2,7 +2,7 @@ use crate::token::Token;
 use crate::word_at;
 
 // The words of a body from an offset on, in their order.
-#[derive(Clone, Copy, Debug)]
+#[derive(Clone, Debug, Drop)]
 pub struct Words<'a> {
     pub body: &'a [u8],
     pub at: usize,
