@@ -18,6 +18,7 @@ pub(crate) fn first_of(line: &[u8], byte: u8) -> Option<usize>
 }
 
 // A line up to its remark.
+#[tactic(auto, using(crate::proofs::Splitting::to_tab, crate::proofs::Splitting::no_tab))]
 pub(crate) fn statement(line: &[u8]) -> &[u8]
     ensures { result.now ≡ unremarked line.now }
 {

@@ -11,6 +11,7 @@ use Rattle.notation.proofs.Splitting.{parts}
 use Rattle.notation.proofs.composing.compose.Goals as goal
 use Rattle.notation.proofs.composing.compose.Goals.{In-Some}
 
+-- the part that a step is given
 given : (c : In-Some) → (length c.loop-before.yielded < length (parts c.args.text.now)) × ((c.in-Some.before ≡ length c.loop-before.yielded) × (c.in-Some.line.now ≡ get_or (parts c.args.text.now) (length c.loop-before.yielded) c.in-Some.line.now))
 given c =
     let text = c.args.text.now in
@@ -38,6 +39,7 @@ returns-in-Err-Unstated c =
     let not_taken = subst (NotTaken c.args.bodies) c.statement.ensures (c.in-Err-Unstated.ensures c.in-Err-Unstated.field-0-is) in
     subst (λ k. Unstated c.args.bodies text (k + 1)) (sym p.1.0) (stop c.args.bodies text n was c.loop-before.invariant c.in-Some.line.now p.0 p.1.1 not_taken)
 
+-- `all` again and not a lemma with `given`: a lemma for both has to name the iterator's type, and is longer
 pub returns : goal.returns
 returns c =
     let text = c.args.text.now in
