@@ -53,7 +53,8 @@ fn judge(issuer: u8, length: usize) -> Result<(), WriteFault>
     Ok(())
 }
 
-// The four bytes before a body.
+// The four bytes before a body. The mark is spelled here and in the pattern of `record_at`: a name for each of its two
+// bytes is no plainer than the bytes.
 fn header(issuer: u8, length: u8) -> [u8; 4]
     ensures { result ≡ 0x46 ∷ (0x52 ∷ (issuer ∷ (length ∷ []))) }
 {
