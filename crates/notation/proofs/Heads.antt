@@ -1,90 +1,67 @@
--- How a line begins: the issuer in one digit or two.
-use Rattle.std.proofs.Common.{◌≡◌, ℕ, ◌+◌, ◌/◌, ◌%◌, ◌<◌, ◌≤◌, ◌⊎◌, List, [], ◌∷◌, ◌++◌, length, get_or, drop, sym, refl, ap, ◌∙◌, inl, inr, arith}
-use Rattle.std.proofs.lemmas.Fmt.{decimal_digit, decimal_step}
+-- How a line begins: with the issuer, up to the first space.
+use Rattle.std.proofs.Common.{◌≡◌, ℕ, ◌+◌, ◌/◌, ◌%◌, ◌≤◌, eqb, List, [], ◌∷◌, ◌++◌, length, get_or, take, drop, Some, decimal, sym, refl, ap, ◌∙◌, subst, inl, inr, append_assoc, arith}
+use Rattle.std.proofs.lemmas.Fmt.{decimal_digit, decimal_injective, decimal_step}
 use Rattle.std.proofs.lemmas.Bool.{cases_lt}
-use Rattle.reading.proofs.Covering.{next_byte}
+use Rattle.std.proofs.lemmas.Bool.Decides.{nat_tests}
+use Rattle.std.proofs.lemmas.List.{take_at, drop_at, drop_more, take-append-drop}
+use Rattle.std.proofs.lemmas.List.Quantifiers.{position-Some}
+use Rattle.std.specs.List.{position}
+use Rattle.words.specs.Words.{digits}
 use Rattle.notation.specs.Shown.{head}
 
-pub head_one : (n : ℕ) → n < 10 → head n ≡ 117 ∷ ((48 + n) ∷ (32 ∷ []))
-head_one n l = ap (λ d. 117 ∷ (d ++ (32 ∷ []))) (decimal_digit n l)
+two_digits : (n : ℕ) → 10 ≤ n → n ≤ 99 → decimal n ≡ (48 + n / 10) ∷ ((48 + n % 10) ∷ [])
+two_digits n l m = decimal_step n l (omega arith) ∙ ap (λ d. d ++ ((48 + n % 10) ∷ [])) (decimal_digit (n / 10) (omega arith))
 
-pub head_two : (n : ℕ) → 10 ≤ n → n < 100 → head n ≡ 117 ∷ ((48 + n / 10) ∷ ((48 + n % 10) ∷ (32 ∷ [])))
-head_two n l m =
-    let front = decimal_digit (n / 10) (omega arith) in
-    ap (λ d. 117 ∷ (d ++ (32 ∷ []))) (decimal_step n l (omega arith) ∙ ap (λ d. d ++ ((48 + n % 10) ∷ [])) front)
-
-pub record OneDigit (l : List ℕ) (n : ℕ) : Type 0 where
-  pub small : n < 10
-  pub within : 3 ≤ length l
-  pub letter : get_or l 0 0 ≡ 117
-  pub first : get_or l 1 0 ≡ 48 + n
-  pub space : get_or l 2 0 ≡ 32
-
-pub record TwoDigits (l : List ℕ) (n : ℕ) : Type 0 where
-  pub large : 10 ≤ n
-  pub fits : n ≤ 63
-  pub within : 4 ≤ length l
-  pub letter : get_or l 0 0 ≡ 117
-  pub first : get_or l 1 0 ≡ 48 + n / 10
-  pub second : get_or l 2 0 ≡ 48 + n % 10
-  pub space : get_or l 3 0 ≡ 32
-
-pub headed : (l : List ℕ) (n : ℕ) (rest : List ℕ) → n ≤ 63 → l ≡ head n ++ rest → OneDigit l n ⊎ TwoDigits l n
-headed l n rest m e =
+-- a number is shown as words write it
+pub shown_as_word : (n : ℕ) → n ≤ 99 → decimal n ≡ digits n
+shown_as_word n m =
     elim (cases_lt n 10) [
-      | inl s ↦ (let h = e ∙ ap (λ d. d ++ rest) (head_one n s) in
-          let k = ap length h in
-          inl (record { small = s; within = omega arith; letter = ap (λ d. get_or d 0 0) h; first = ap (λ d. get_or d 1 0) h; space = ap (λ d. get_or d 2 0) h }))
-      | inr s ↦ (let h = e ∙ ap (λ d. d ++ rest) (head_two n s (omega arith)) in
-          let k = ap length h in
-          inr (record { large = s; fits = m; within = omega arith; letter = ap (λ d. get_or d 0 0) h; first = ap (λ d. get_or d 1 0) h; second = ap (λ d. get_or d 2 0) h; space = ap (λ d. get_or d 3 0) h }))
+      | inl l ↦ (let d = decimal_digit n l in grind (arith, nat_tests))
+      | inr l ↦ (let d = two_digits n l m in grind (arith, nat_tests))
     ]
 
-pub one_heads : (l : List ℕ) (n : ℕ) → OneDigit l n → l ≡ head n ++ drop 3 l
-one_heads l n h =
-    let w = h.within in
-    let a : l ≡ get_or l 0 0 ∷ drop 1 l = next_byte l 0 1 (omega arith) refl in
-    let b = next_byte l 1 2 (omega arith) refl in
-    let c = next_byte l 2 3 (omega arith) refl in
-    let all : l ≡ 117 ∷ ((48 + n) ∷ (32 ∷ drop 3 l)) = cc in
-    all ∙ ap (λ d. d ++ drop 3 l) (sym (head_one n h.small))
+-- the first space stands behind the number
+space_at : (n : ℕ) (text : List ℕ) → n ≤ 99 → position (λ b. eqb b 32) (decimal n ++ (32 ∷ text)) ≡ Some (length (decimal n))
+space_at n text m =
+    elim (cases_lt n 10) [
+      | inl l ↦ subst (λ d. position (λ b. eqb b 32) (d ++ (32 ∷ text)) ≡ Some (length d)) (sym (decimal_digit n l)) (grind (arith, nat_tests))
+      | inr l ↦ subst (λ d. position (λ b. eqb b 32) (d ++ (32 ∷ text)) ≡ Some (length d)) (sym (two_digits n l m)) (grind (arith, nat_tests))
+    ]
 
-pub two_heads : (l : List ℕ) (n : ℕ) → TwoDigits l n → l ≡ head n ++ drop 4 l
-two_heads l n h =
-    let w = h.within in
-    let f = h.fits in
-    let a : l ≡ get_or l 0 0 ∷ drop 1 l = next_byte l 0 1 (omega arith) refl in
-    let b = next_byte l 1 2 (omega arith) refl in
-    let c = next_byte l 2 3 (omega arith) refl in
-    let d = next_byte l 3 4 (omega arith) refl in
-    let all : l ≡ 117 ∷ ((48 + n / 10) ∷ ((48 + n % 10) ∷ (32 ∷ drop 4 l))) = cc in
-    all ∙ ap (λ d. d ++ drop 4 l) (sym (head_two n h.large (omega arith)))
+-- what follows the letter
+behind_letter : (rest : List ℕ) (n : ℕ) (text : List ℕ) → 117 ∷ rest ≡ head n ++ text → rest ≡ decimal n ++ (32 ∷ text)
+behind_letter rest n text e =
+    let t : rest ≡ (decimal n ++ (32 ∷ [])) ++ text = cc in
+    t ∙ append_assoc (decimal n) (32 ∷ []) text
 
--- a line that begins neither way
-pub unheaded : (l : List ℕ) → ((n : ℕ) → OneDigit l n → ⊥) → ((n : ℕ) → TwoDigits l n → ⊥) → (n : ℕ) (rest : List ℕ) → n ≤ 63 → l ≡ head n ++ rest → ⊥
-unheaded l one two n rest m e = elim (headed l n rest m e) [ inl h ↦ one n h | inr h ↦ two n h ]
+pub spaced : (rest : List ℕ) (n : ℕ) (text : List ℕ) → n ≤ 99 → 117 ∷ rest ≡ head n ++ text → position (λ b. eqb b 32) rest ≡ Some (length (decimal n))
+spaced rest n text m e = ap (position (λ b. eqb b 32)) (behind_letter rest n text e) ∙ space_at n text m
+
+-- the number stands before the first space
+pub number_at : (rest : List ℕ) (space n : ℕ) (text : List ℕ) → position (λ b. eqb b 32) rest ≡ Some space → n ≤ 99 → 117 ∷ rest ≡ head n ++ text → (take space rest ≡ decimal n) × (drop space rest ≡ 32 ∷ text)
+number_at rest space n text p m e =
+    let is = behind_letter rest n text e in
+    let found = spaced rest n text m e in
+    let at : length (decimal n) ≡ space = cc in
+    (ap (take space) is ∙ take_at (decimal n) (32 ∷ text) space at, ap (drop space) is ∙ drop_at (decimal n) (32 ∷ text) space at)
+
+-- a word of digits and a space are a head
+pub heads : (rest : List ℕ) (space n : ℕ) → position (λ b. eqb b 32) rest ≡ Some space → n ≤ 99 → take space rest ≡ digits n → 117 ∷ rest ≡ head n ++ drop (space + 1) rest
+heads rest space n p m w =
+    let f = position-Some (λ b. eqb b 32) rest space 0 p in
+    let b : get_or rest space 0 ≡ 32 = grind (arith, nat_tests) in
+    let tail : drop space rest ≡ 32 ∷ drop (space + 1) rest = drop_more rest space 0 f.0 ∙ ap (λ x. x ∷ drop (space + 1) rest) b in
+    let front : take space rest ≡ decimal n = w ∙ sym (shown_as_word n m) in
+    let all : rest ≡ decimal n ++ (32 ∷ drop (space + 1) rest) = sym (take-append-drop space rest) ∙ ap (λ t. t ++ drop space rest) front ∙ ap (λ t. decimal n ++ t) tail in
+    ap (λ t. 117 ∷ t) (all ∙ sym (append_assoc (decimal n) (32 ∷ []) (drop (space + 1) rest)))
 
 -- the issuer and what follows it are known by the line
 pub same_head : (m n : ℕ) (xs ys : List ℕ) → m ≤ 63 → n ≤ 63 → head m ++ xs ≡ head n ++ ys → (m ≡ n) × (xs ≡ ys)
 same_head m n xs ys k l e =
-    elim (cases_lt m 10) [
-      | inl a ↦ (elim (cases_lt n 10) [
-        | inl b ↦ (let h = sym (ap (λ d. d ++ xs) (head_one m a)) ∙ e ∙ ap (λ d. d ++ ys) (head_one n b) in
-            let f : 48 + m ≡ 48 + n = cc in
-            let t : xs ≡ ys = cc in
-            (omega arith, t))
-        | inr b ↦ (let h = sym (ap (λ d. d ++ xs) (head_one m a)) ∙ e ∙ ap (λ d. d ++ ys) (head_two n b (omega arith)) in
-            let s : 32 ≡ 48 + n % 10 = cc in
-            absurd (omega arith))
-      ])
-      | inr a ↦ (elim (cases_lt n 10) [
-        | inl b ↦ (let h = sym (ap (λ d. d ++ xs) (head_two m a (omega arith))) ∙ e ∙ ap (λ d. d ++ ys) (head_one n b) in
-            let s : 48 + m % 10 ≡ 32 = cc in
-            absurd (omega arith))
-        | inr b ↦ (let h = sym (ap (λ d. d ++ xs) (head_two m a (omega arith))) ∙ e ∙ ap (λ d. d ++ ys) (head_two n b (omega arith)) in
-            let f : 48 + m / 10 ≡ 48 + n / 10 = cc in
-            let s : 48 + m % 10 ≡ 48 + n % 10 = cc in
-            let t : xs ≡ ys = cc in
-            (omega arith, t))
-      ])
-    ]
+    let p = space_at m xs (omega arith) in
+    let is : decimal m ++ (32 ∷ xs) ≡ (decimal m ++ (32 ∷ [])) ++ xs = sym (append_assoc (decimal m) (32 ∷ []) xs) in
+    let r = number_at (decimal m ++ (32 ∷ xs)) (length (decimal m)) n ys p (omega arith) (ap (λ t. 117 ∷ t) is ∙ e) in
+    let same : decimal m ≡ decimal n = sym (take_at (decimal m) (32 ∷ xs) (length (decimal m)) refl) ∙ r.0 in
+    let after : 32 ∷ xs ≡ 32 ∷ ys = sym (drop_at (decimal m) (32 ∷ xs) (length (decimal m)) refl) ∙ r.1 in
+    let t : xs ≡ ys = cc in
+    (decimal_injective m n (omega arith) (omega arith) same, t)

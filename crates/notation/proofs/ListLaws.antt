@@ -32,7 +32,7 @@ entry_lines (Ok f) m d fs rest r n s tail =
     let first : lines (shown_entry (Ok f) m ++ rest) ≡ (line f ++ m) ∷ lines rest
     = ap lines (append_assoc (line f ++ m) (10 ∷ []) rest) ∙ lines_feed (line f ++ m) rest (one_line (line f) m v shape) in
     ap (map unremarked) first ∙ ap (λ l. l ∷ map unremarked (lines rest)) (before_remark (line f) m v shape) ∙ ap (λ ls. line f ∷ ls) (tail n s.1)
-entry_lines (Err k) m d fs rest r n s tail = absurd (let z : ◌≡◌ {A = ℕ} 0 1 = cc in omega arith)
+entry_lines (Err k) m d fs rest r n s tail = cc
 
 -- without a fault, the lines of a listing are those of its records, but for remarks
 pub listed_lines : (xs : List Item) → AllByRecursion RightlyRemarked xs → damage (entries_of xs) ≡ None → AllByRecursion Sound (frames (entries_of xs))

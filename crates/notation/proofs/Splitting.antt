@@ -7,28 +7,24 @@ use Rattle.std.proofs.lemmas.List.Sums.{take_while-cons}
 use Rattle.std.proofs.lemmas.Bool.Decides.{nat_tests}
 use Rattle.std.proofs.lemmas.Bool.{both_ways, cases_Bool, cases_eq, cases_lt, cond-true, cond-false, eq-eqb, ne_eqb}
 use Rattle.std.specs.List.{AllByRecursion, onto_first, position, position_or_len, slice_split}
-use Rattle.notation.specs.Lines.{lines, with_first, unremarked, skipped, kept, statements}
+use Rattle.notation.specs.Lines.{lines, unremarked, skipped, kept, statements}
 
 abbrev pub NoFeed : ℕ → Type 0
 NoFeed b = b ≡ 10 → ⊥
 
-goes_on : (b : ℕ) (bs : List ℕ) → NoFeed b → lines (b ∷ bs) ≡ with_first b (lines bs)
-goes_on b bs n = cond-false (eqb b 10) ([] ∷ lines bs) (with_first b (lines bs)) (ne_eqb b 10 n)
+goes_on : (b : ℕ) (bs : List ℕ) → NoFeed b → lines (b ∷ bs) ≡ onto_first b (lines bs)
+goes_on b bs n = cond-false (eqb b 10) ([] ∷ lines bs) (onto_first b (lines bs)) (ne_eqb b 10 n)
 
 -- a line and a line feed
 pub lines_feed : (l rest : List ℕ) → AllByRecursion NoFeed l → lines (l ++ (10 ∷ rest)) ≡ l ∷ lines rest
 lines_feed [] rest n = refl
-lines_feed (b ∷ bs) rest n = goes_on b (bs ++ (10 ∷ rest)) n.0 ∙ ap (with_first b) (lines_feed bs rest n.1)
+lines_feed (b ∷ bs) rest n = goes_on b (bs ++ (10 ∷ rest)) n.0 ∙ ap (onto_first b) (lines_feed bs rest n.1)
 
 -- the parts of a text between its line feeds
 abbrev pub parts : List ℕ → List (List ℕ)
 parts text = slice_split (λ b. eqb b 10) text
 
-onto_is : (b : ℕ) (ls : List (List ℕ)) → onto_first b ls ≡ with_first b ls
-onto_is b [] = refl
-onto_is b (l ∷ ls) = refl
-
-joined : (b : ℕ) (ls : List (List ℕ)) → (onto_first b (ls ++ ([] ∷ [])) ≡ with_first b ls) ⊎ (onto_first b (ls ++ ([] ∷ [])) ≡ with_first b ls ++ ([] ∷ []))
+joined : (b : ℕ) (ls : List (List ℕ)) → (onto_first b (ls ++ ([] ∷ [])) ≡ onto_first b ls) ⊎ (onto_first b (ls ++ ([] ∷ [])) ≡ onto_first b ls ++ ([] ∷ []))
 joined b [] = inl refl
 joined b (l ∷ ls) = inr refl
 
@@ -39,15 +35,15 @@ parts_lines (b ∷ bs) =
     let is : ℕ → Bool = λ x. eqb x 10 in
     elim (cases_eq b 10) [
       | inl e ↦ (let cut : parts (b ∷ bs) ≡ [] ∷ parts bs = slice_split-cons_yes is b bs (eq-eqb b 10 e) in
-          let ends : lines (b ∷ bs) ≡ [] ∷ lines bs = cond-true (eqb b 10) ([] ∷ lines bs) (with_first b (lines bs)) (eq-eqb b 10 e) in
+          let ends : lines (b ∷ bs) ≡ [] ∷ lines bs = cond-true (eqb b 10) ([] ∷ lines bs) (onto_first b (lines bs)) (eq-eqb b 10 e) in
           elim (parts_lines bs) [
             | inl h ↦ inl (cut ∙ ap (λ ls. [] ∷ ls) h ∙ sym ends)
             | inr h ↦ inr (cut ∙ ap (λ ls. [] ∷ ls) h ∙ ap (λ ls. ls ++ ([] ∷ [])) (sym ends))
           ])
       | inr n ↦ (let cut : parts (b ∷ bs) ≡ onto_first b (parts bs) = slice_split-cons_no is b bs (ne_eqb b 10 n) in
-          let on : lines (b ∷ bs) ≡ with_first b (lines bs) = goes_on b bs n in
+          let on : lines (b ∷ bs) ≡ onto_first b (lines bs) = goes_on b bs n in
           elim (parts_lines bs) [
-            | inl h ↦ inl (cut ∙ ap (onto_first b) h ∙ onto_is b (lines bs) ∙ sym on)
+            | inl h ↦ inl (cut ∙ ap (onto_first b) h ∙ sym on)
             | inr h ↦ elim (joined b (lines bs)) [
               | inl j ↦ inl (cut ∙ ap (onto_first b) h ∙ j ∙ sym on)
               | inr j ↦ inr (cut ∙ ap (onto_first b) h ∙ j ∙ ap (λ ls. ls ++ ([] ∷ [])) (sym on))
@@ -97,13 +93,13 @@ to_tab l tab e =
       | inl t ↦ (let found : Some n ≡ Some tab = sym (cond-true (ltb n (length l)) (Some n) None t) ∙ e in
           let same : n ≡ tab = cc in
           ap (λ k. take k l) (sym same))
-      | inr f ↦ absurd (let lost : None ≡ Some tab = sym (cond-false (ltb n (length l)) (Some n) None f) ∙ e in let z : ◌≡◌ {A = ℕ} 0 1 = cc in omega arith)
+      | inr f ↦ absurd (let lost : None ≡ Some tab = sym (cond-false (ltb n (length l)) (Some n) None f) ∙ e in cc)
     ]
 
 pub no_tab : (l : List ℕ) → position (λ b. eqb b 9) l ≡ None → l ≡ unremarked l
 no_tab l e =
     let n = position_or_len (λ b. eqb b 9) l in
     elim (cases_Bool (ltb n (length l))) [
-      | inl t ↦ absurd (let lost : Some n ≡ None = sym (cond-true (ltb n (length l)) (Some n) None t) ∙ e in let z : ◌≡◌ {A = ℕ} 0 1 = cc in omega arith)
+      | inl t ↦ absurd (let lost : Some n ≡ None = sym (cond-true (ltb n (length l)) (Some n) None t) ∙ e in cc)
       | inr f ↦ sym (take_all n l (grind (arith, nat_tests)))
     ]

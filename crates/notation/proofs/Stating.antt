@@ -16,9 +16,6 @@ use Rattle.notation.specs.Shown.{head, shown, line, Statable}
 use Rattle.notation.proofs.Heads.{same_head}
 use Rattle.notation.proofs.Showing.{same_body}
 
-no_more : {X : Type 0} (x : X) (xs : List X) → [] ≡ x ∷ xs → ⊥
-no_more x xs e = let n = ap length e in omega arith
-
 -- what a line that begins with an issuer shows after it
 pub shows_body : (l : List ℕ) (n : ℕ) (text : List ℕ) → (n ≤ 63) × (l ≡ head n ++ text) → (f : Frame) → Statable f → line f ≡ l → text ≡ flat_map shown f.body
 shows_body l n text h f s e = sym (same_head f.issuer n (flat_map shown f.body) text s.sound.issuer h.0 (e ∙ h.1)).1
@@ -34,8 +31,8 @@ same_line f g s t e =
 
 pub same_lines : (fs gs : List Frame) → AllByRecursion Statable fs → AllByRecursion Statable gs → map line fs ≡ map line gs → fs ≡ gs
 same_lines [] [] s t e = refl
-same_lines [] (g ∷ gs) s t e = absurd (no_more (line g) (map line gs) e)
-same_lines (f ∷ fs) [] s t e = absurd (no_more (line f) (map line fs) (sym e))
+same_lines [] (g ∷ gs) s t e = cc
+same_lines (f ∷ fs) [] s t e = cc
 same_lines (f ∷ fs) (g ∷ gs) s t e =
     let first : line f ≡ line g = cc in
     let rest : map line fs ≡ map line gs = cc in
@@ -44,11 +41,11 @@ same_lines (f ∷ fs) (g ∷ gs) s t e =
 -- a body is a sentence if it is answered one
 pub says_sentence : (body : List ℕ) (r : Result Sentence WordingFault) → Answers body r → ((q : Result Sentence WordingFault) → Answers body q → q ≡ r) → IsTrue (is_ok r) ↔ ((s : Sentence) × Answers body (Ok s))
 says_sentence body (Ok s) a only = (λ _. (s, a), λ _. refl)
-says_sentence body (Err k) a only = (λ t. absurd (false≢true t), λ x. absurd (let same = only (Ok x.0) x.1 in let z : ◌≡◌ {A = ℕ} 0 1 = cc in omega arith))
+says_sentence body (Err k) a only = (λ t. absurd (false≢true t), λ x. absurd (let same = only (Ok x.0) x.1 in cc))
 
 -- a record that cannot be written has a body of a length that none may have
 pub unfit_body : (issuer : ℕ) (body : List ℕ) (w : WriteFault) → issuer ≤ 63 → Unwritable issuer body w → of_write w ≡ Unstated → 1 ≤ length body → length body ≤ 64 → ⊥
 unfit_body issuer body Issuer i u e some short = omega arith
 unfit_body issuer body Length i (j, inl z) e some short = omega arith
 unfit_body issuer body Length i (j, inr z) e some short = omega arith
-unfit_body issuer body Memory i u e some short = let z : ◌≡◌ {A = ℕ} 0 1 = cc in omega arith
+unfit_body issuer body Memory i u e some short = cc

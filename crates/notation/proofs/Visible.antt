@@ -1,7 +1,7 @@
 -- What is shown has no control characters but the tab before a remark: a line is one line, and its remark can be told from it.
 use Rattle.std.proofs.Common.{◌≡◌, ℕ, zero, suc, ◌/◌, ◌%◌, ◌≤◌, true, false, cond, eqb, ◌⊎◌, List, [], ◌∷◌, ◌++◌, Ok, Err, codes, decimal, Result, sym, refl, ap, ◌∙◌, subst, inl, inr, arith}
 use Rattle.std.proofs.ByRecursion.{All-append, All-weaker}
-use Rattle.std.proofs.lemmas.Bool.{cases_Bool, cases_lt}
+use Rattle.std.proofs.lemmas.Bool.{cases_Bool}
 use Rattle.std.proofs.lemmas.Bool.Decides.{nat_tests}
 use Rattle.std.specs.Fmt.{digits, digit_glyph, digits_onto}
 use Rattle.std.specs.List.{flat_map, AllByRecursion}
@@ -13,7 +13,6 @@ use Rattle.reading.specs.Records.{Frame}
 use Rattle.reading.specs.Cut.{Sound}
 use Rattle.notation.specs.Lines.{unremarked}
 use Rattle.notation.specs.Shown.{plain, hex, shown, head, line, remark}
-use Rattle.notation.proofs.Heads.{head_one, head_two}
 use Rattle.notation.proofs.Showing.{shown_plain, shown_escaped}
 use Rattle.notation.proofs.Splitting.{NoFeed, unremarked_tab, unremarked_more}
 
@@ -37,16 +36,6 @@ body_visible : (bs : List ℕ) → AllByRecursion Visible (flat_map shown bs)
 body_visible [] = tt
 body_visible (b ∷ bs) = All-append Visible (shown b) (flat_map shown bs) (shown_visible b) (body_visible bs)
 
-head_visible : (n : ℕ) → n ≤ 63 → AllByRecursion Visible (head n)
-head_visible n m =
-    elim (cases_lt n 10) [
-      | inl l ↦ subst (AllByRecursion Visible) (sym (head_one n l)) (omega arith, (omega arith, (omega arith, tt)))
-      | inr l ↦ subst (AllByRecursion Visible) (sym (head_two n l (omega arith))) (omega arith, (omega arith, (omega arith, (omega arith, tt))))
-    ]
-
-pub line_visible : (f : Frame) → Sound f → AllByRecursion Visible (line f)
-line_visible f s = All-append Visible (head f.issuer) (flat_map shown f.body) (head_visible f.issuer s.issuer) (body_visible f.body)
-
 glyph_visible : (d : ℕ) → Visible (digit_glyph false d)
 glyph_visible d = grind (arith, nat_tests)
 
@@ -62,6 +51,12 @@ spelled_visible (suc k) n acc h =
 decimal_visible : (n : ℕ) → AllByRecursion Visible (decimal n)
 unfolding digits
 decimal_visible n = spelled_visible 64 n [] tt
+
+head_visible : (n : ℕ) → AllByRecursion Visible (head n)
+head_visible n = (omega arith, All-append Visible (decimal n) (32 ∷ []) (decimal_visible n) (omega arith, tt))
+
+pub line_visible : (f : Frame) → Sound f → AllByRecursion Visible (line f)
+line_visible f s = All-append Visible (head f.issuer) (flat_map shown f.body) (head_visible f.issuer) (body_visible f.body)
 
 told_visible : (n p : ℕ) → AllByRecursion Visible (told n p)
 told_visible n p =

@@ -1,5 +1,5 @@
 -- What a line adds to a file.
-use Rattle.std.specs.Prelude.{◌≡◌, ℕ, ◌+◌, ◌<◌, true, false, ◌⊎◌, List, ◌++◌, ◌≢◌}
+use Rattle.std.specs.Prelude.{◌≡◌, ℕ, true, false, ◌⊎◌, List, ◌++◌, ◌≢◌}
 use Rattle.reading.specs.Records.{Frame}
 use Rattle.reading.specs.Cut.{bytes_of}
 use Rattle.reading.specs.declared.writing.WriteFault.{WriteFault}
@@ -9,12 +9,6 @@ use Rattle.notation.specs.declared.line.LineFault.{LineFault}
 use Rattle.notation.specs.declared.line.LineFault.TheVariants as line_fault
 use Rattle.notation.specs.Lines.{skipped}
 use Rattle.notation.specs.Shown.{line, Statable, Passes}
-
-abbrev pub Digit : ℕ → ℕ → Type 0
-Digit c d = (d < 10) × (c ≡ 48 + d)
-
-abbrev pub NoDigit : ℕ → Type 0
-NoDigit c = (d : ℕ) → d < 10 → c ≢ 48 + d
 
 -- the line is that of a record, whose bytes are added
 pub record Added (bodies : Bodies) (l before after : List ℕ) : Type 0 where

@@ -1,15 +1,11 @@
 -- The lines of a text, and which of them state nothing.
 use Rattle.std.specs.Prelude.{ℕ, Bool, not, if◌then◌else◌, ◌||◌, List, [], ◌∷◌, codes, filter, map, nat_eq, ◌==◌}
-use Rattle.std.specs.List.{before_first, list_all, starts_with}
-
-abbrev pub with_first : ℕ → List (List ℕ) → List (List ℕ)
-with_first b [] = (b ∷ []) ∷ []
-with_first b (l ∷ ls) = (b ∷ l) ∷ ls
+use Rattle.std.specs.List.{before_first, list_all, onto_first, starts_with}
 
 -- each line ends at a line feed or at the end of the text
 abbrev pub lines : List ℕ → List (List ℕ)
 lines [] = []
-lines (b ∷ bs) = if b == 10 then [] ∷ lines bs else with_first b (lines bs)
+lines (b ∷ bs) = if b == 10 then [] ∷ lines bs else onto_first b (lines bs)
 
 -- a line up to its remark, which begins with a tab
 abbrev pub unremarked : List ℕ → List ℕ

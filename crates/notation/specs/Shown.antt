@@ -35,7 +35,7 @@ line f = head f.issuer ++ flat_map shown f.body
 -- behind a body that is no sentence, a tab and why
 abbrev pub remark : Result Sentence WordingFault → List ℕ
 remark (Ok s) = []
-remark (Err k) = 9 ∷ told (wording.number_of k) (wording.place_of k)
+remark (Err k) = 9 ∷ wording.shown k
 
 abbrev pub ended : List ℕ → List ℕ
 ended l = l ++ (10 ∷ [])

@@ -2,14 +2,16 @@
 ghost use Rattle.std.specs.Prelude.{◌≡◌, ℕ, ◌≤◌, List, ◌++◌, ◌↔◌, IsTrue, MatchOption, MatchResult, ◌≢◌};
 ghost use Rattle.std.specs.List.{flat_map, AllByRecursion};
 ghost use Rattle.notation.specs.Shown.{head, shown, Byte, Passes};
-ghost use Rattle.notation.specs.Adding.{Digit, NoDigit, Added, NotAdded, of_write};
+ghost use Rattle.notation.specs.Adding.{Added, NotAdded, of_write};
 ghost use Rattle.notation.specs.declared.line.LineFault.TheVariants.{Unstated, Memory};
 
 use crate::bodies::Bodies;
 use crate::escape::first_byte;
+use crate::split::first_of;
 use reading::writing::{WriteFault, write};
 use std::alloc::{AllocFailed, Global};
 use wording::sentence_of;
+use words::number;
 
 // Why a line adds no record.
 #[derive(Clone, Copy, Debug, PartialEq, Eq)]
@@ -39,36 +41,17 @@ impl From<WriteFault> for LineFault {
     }
 }
 
-// The value of a decimal digit.
-fn digit(c: u8) -> Option<u8>
-    ensures { MatchOption result (NoDigit c) (λ d. Digit c d) }
-{
-    match c {
-        b'0'..=b'9' => Some(c - b'0'),
-        _ => None,
-    }
-}
-
 // The issuer that a line begins with, and the text after it.
 fn issuer_of(line: &[u8]) -> Option<(u8, &[u8])>
     ensures { MatchOption result ((n : ℕ) (rest : List ℕ) → n ≤ 63 → line.now ≢ head n ++ rest) (λ x. (x.0 ≤ 63) × (line.now ≡ head x.0 ++ x.1.now)) }
 {
-    let [b'u', first, rest @ ..] = line else {
+    let rest = line.strip_prefix(b"u")?;
+    let space = first_of(rest, b' ')?;
+    let issuer = number(&rest[..space])?;
+    if issuer > 63 {
         return None;
-    };
-    let first = digit(*first)?;
-    match rest {
-        [b' ', text @ ..] => Some((first, text)),
-        [second, b' ', text @ ..] => {
-            // a number of two digits has no leading zero
-            let issuer = first * 10 + digit(*second)?;
-            if issuer < 10 || issuer > 63 {
-                return None;
-            }
-            Some((issuer, text))
-        }
-        _ => None,
     }
+    Some((issuer, &rest[space + 1..]))
 }
 
 // The body that a text shows.

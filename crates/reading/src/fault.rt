@@ -2,6 +2,7 @@
 ghost use Rattle.std.specs.Prelude.{◌≡◌, Some};
 ghost use Rattle.reading.specs.Faults.{number_of, layer_of, place_of, told};
 
+use std::error::Error;
 use std::fmt;
 
 // The part of the engine that refuses a record.
@@ -71,3 +72,5 @@ impl fmt::Display for ReadingFault {
         write!(f, "no {number} at {place}")
     }
 }
+
+impl Error for ReadingFault {}

@@ -6,11 +6,13 @@ ghost use Rattle.reading.specs.Cut.{ReadingLaws};
 ghost use Rattle.reading.specs.Records.{Reads, Refused};
 
 pub mod fault;
+mod limits;
 pub mod record;
 pub mod records;
 pub mod writing;
 
 use fault::ReadingFault;
+use limits::{is_issuer, is_length};
 use record::Record;
 
 // The record at an offset of the input, or none at the input's end.
@@ -35,10 +37,10 @@ fn record_at(input: &[u8], at: usize) -> Result<Option<Record<'_>>, ReadingFault
         [_, _, _, _, ..] => return Err(ReadingFault::Mark(at)),
         _ => return Err(ReadingFault::Header(at)),
     };
-    if issuer > 63 {
+    if !is_issuer(issuer) {
         return Err(ReadingFault::Issuer(at));
     }
-    if length < 1 || length > 64 {
+    if !is_length(length as usize) {
         return Err(ReadingFault::Length(at));
     }
     let Some(body) = tail.get(..length as usize) else {

@@ -5,6 +5,7 @@ ghost use Rattle.reading.specs.Cut.{Sound, bytes_of};
 ghost use Rattle.reading.specs.Writing.{Unwritable, Writable, Unfit};
 ghost use Rattle.reading.specs.declared.writing.WriteFault.TheVariants.{Memory};
 
+use crate::limits::{is_issuer, is_length};
 use std::alloc::AllocError;
 
 // Why a record was not written.
@@ -43,16 +44,17 @@ pub fn write(out: &mut Vec<u8>, issuer: u8, body: &[u8]) -> Result<(), WriteFaul
 fn judge(issuer: u8, length: usize) -> Result<(), WriteFault>
     ensures { MatchResult result (λ _. Writable issuer length) (λ f. Unfit issuer length f) }
 {
-    if issuer > 63 {
+    if !is_issuer(issuer) {
         return Err(WriteFault::Issuer);
     }
-    if length < 1 || length > 64 {
+    if !is_length(length) {
         return Err(WriteFault::Length);
     }
     Ok(())
 }
 
-// The four bytes before a body.
+// The four bytes before a body. The mark is spelled here and in the pattern of `record_at`: a name for each of its two
+// bytes is no plainer than the bytes.
 fn header(issuer: u8, length: u8) -> [u8; 4]
     ensures { result ≡ 0x46 ∷ (0x52 ∷ (issuer ∷ (length ∷ []))) }
 {

@@ -70,7 +70,8 @@ impl StandingFault {
         }
     }
 
-    // The offset that a fault of reading or wording has; 0 for the others, which `layer` tells apart already.
+    // The place that the table of refusals (docs/REFUSALS.md) gives each: the offset that a fault of reading or wording
+    // has, and 0 for those of standing.
     pub fn place(&self) -> usize
         ensures { result ≡ place_of self.now }
     {

@@ -1,63 +1,48 @@
-use Rattle.std.proofs.Common.{◌≡◌, ◌+◌, ◌-◌, ◌*◌, ◌/◌, ◌%◌, ◌≤◌, length, get_or, take, drop, ap, ◌∙◌, sym, arith}
-use Rattle.std.proofs.lemmas.Grind.{common_steps}
-use Rattle.std.proofs.lemmas.List.{take_rest, drop-drop}
-use Rattle.notation.proofs.Heads.{unheaded, one_heads, two_heads}
+use Rattle.std.proofs.Common.{◌≡◌, [], ◌∷◌, None, Some, eqb, sym, ◌∙◌, arith}
+use Rattle.std.proofs.lemmas.Bool.Decides.{Decides-eqb}
+use Rattle.std.proofs.lemmas.Fmt.{decimal_injective}
+use Rattle.std.proofs.lemmas.List.{take_rest}
+use Rattle.std.proofs.lemmas.Slice.Eq.{strip_prefix_is}
+use Rattle.std.specs.List.{position}
+use Rattle.notation.proofs.Heads.{heads, number_at, shown_as_word, spaced}
 use Rattle.notation.proofs.line.issuer_of.Goals as goal
+use Rattle.notation.proofs.line.issuer_of.Goals.{In_ok-rest, In_ok-space}
 
-pub returns-in_err-first : goal.returns-in_err-first
-returns-in_err-first c =
-    let none = c.in_err-first.ensures in
-    rw c.from_residual.ensures (unheaded c.args.line.now (λ n h. none n h.small h.first) (λ n h. let f = h.fits in none (n / 10) (omega arith) h.first))
+-- the letter is read
+letter : (c : In_ok-rest) → c.args.line.now ≡ 117 ∷ c.in_ok-rest.rest.now
+letter c = strip_prefix_is Decides-eqb c.args.line.now (117 ∷ []) (Some c.in_ok-rest.rest) c.in_ok-rest.ensures.cases
 
-pub returns-in-32 : goal.returns-in-32
-returns-in-32 c =
-    let line = c.args.line.now in
-    let n = c.in_ok-first.first in
-    let d = c.in_ok-first.ensures in
-    let a : get_or line 0 0 ≡ 117 = grind (arith, common_steps) in
-    let e : get_or line 2 0 ≡ 32 = grind (arith, common_steps) in
-    let k : 3 ≤ length line = grind (arith, common_steps) in
-    (omega arith, simp take_rest (simp drop-drop (one_heads line n (record { small = d.0; within = k; letter = a; first = d.1; space = e }))))
+-- a space is found behind it
+found : (c : In_ok-space) → position (λ b. eqb b 32) c.in_ok-rest.rest.now ≡ Some c.in_ok-space.space
+found c = sym c.first_of.ensures ∙ c.in_ok-space.was
 
-pub returns-in_err-issuer-in-32-2 : goal.returns-in_err-issuer-in-32-2
-returns-in_err-issuer-in-32-2 c =
-    let line = c.args.line.now in
-    let none = c.in_err-issuer-in-32-2.ensures in
-    let other : get_or line 2 0 ≡ 32 → ⊥ = grind (arith, common_steps) in
-    rw c.from_residual-in_err-issuer-in-32-2.ensures (unheaded line (λ n h. other h.space) (λ n h. none (n % 10) (omega arith) (let s = h.second in grind (arith, common_steps))))
+pub returns-in_err-space : goal.returns-in_err-space
+returns-in_err-space c =
+    let at = goal.at.returns-in_err-space c in
+    let rest = c.in_ok-rest.rest.now in
+    let none : None ≡ position (λ b. eqb b 32) rest = c.in_err-space.ensures in
+    rw c.from_residual-in_err-space.ensures (λ n text m e. let found = spaced rest n text (omega arith) (sym (letter at.In_ok-rest) ∙ e) in cc)
 
-pub returns-in_default-rest : goal.returns-in_default-rest
-returns-in_default-rest c =
-    let line = c.args.line.now in
-    unheaded line (λ n h. let w = h.within in let s = h.space in grind (arith, common_steps)) (λ n h. let w = h.within in let s = h.space in let e = h.second in grind (arith, common_steps))
+pub returns-in_err-issuer : goal.returns-in_err-issuer
+returns-in_err-issuer c =
+    let at = goal.at.returns-in_err-issuer c in
+    let rest = c.in_ok-rest.rest.now in
+    rw c.from_residual-in_err-issuer.ensures (λ n text m e.
+    let word = number_at rest c.in_ok-space.space n text (found at.In_ok-space) (omega arith) (sym (letter at.In_ok-rest) ∙ e) in
+    c.in_err-issuer.ensures (n, omega arith, word.0 ∙ shown_as_word n (omega arith)))
 
-pub returns-then-issuer-lt10 : goal.returns-then-issuer-lt10
-returns-then-issuer-lt10 c =
-    let line = c.args.line.now in
-    let a = c.in_ok-first.ensures in
-    let b = c.in_ok-issuer-in-32-2.ensures in
-    let other : get_or line 2 0 ≡ 32 → ⊥ = grind (arith, common_steps) in
-    let same : get_or (take (length line - 2) (drop 2 line)) 0 0 ≡ get_or line 2 0 = grind (arith, common_steps) in
-    unheaded line (λ n h. other h.space)
-    (λ n h.
-    let f = h.first in
-    let s = h.second in
-    let l = h.large in
-    let m = h.fits in
-    omega arith)
+pub returns-then-issuer-gt63 : goal.returns-then-issuer-gt63
+returns-then-issuer-gt63 c = λ n text m e.
+    let at = goal.at.returns-then-issuer-gt63 c in
+    let rest = c.in_ok-rest.rest.now in
+    let read = c.in_ok-issuer.ensures in
+    let word = number_at rest c.in_ok-space.space n text (found at.In_ok-space) (omega arith) (sym (letter at.In_ok-rest) ∙ e) in
+    let same = decimal_injective c.in_ok-issuer.issuer n (omega arith) (omega arith) (shown_as_word c.in_ok-issuer.issuer read.0 ∙ sym read.1 ∙ word.0) in
+    omega arith
 
-pub returns-else-issuer-gt63 : goal.returns-else-issuer-gt63
-returns-else-issuer-gt63 c =
-    let line = c.args.line.now in
-    let first = c.in_ok-first.first in
-    let second = c.in_ok-issuer-in-32-2.field-0 in
-    let a = c.in_ok-first.ensures in
-    let b = c.in_ok-issuer-in-32-2.ensures in
-    let n = first * 10 + second in
-    let x : first ≡ n / 10 = omega arith in
-    let y : second ≡ n % 10 = omega arith in
-    let letter : get_or line 0 0 ≡ 117 = grind (arith, common_steps) in
-    let same : get_or (take (length line - 2) (drop 2 line)) 0 0 ≡ get_or line 2 0 = grind (arith, common_steps) in
-    let space : get_or line 3 0 ≡ 32 = grind (arith, common_steps) in
-    let within : 4 ≤ length line = grind (arith, common_steps) in
-    (omega arith, simp take_rest (simp drop-drop (two_heads line n (record { large = omega arith; fits = omega arith; within = within; letter = letter; first = a.1 ∙ ap (λ d. 48 + d) x; second = sym same ∙ b.1 ∙ ap (λ d. 48 + d) y; space = space }))))
+pub returns : goal.returns
+returns c =
+    let at = goal.at.returns c in
+    let rest = c.in_ok-rest.rest.now in
+    let read = c.in_ok-issuer.ensures in
+    (omega arith, simp take_rest (letter at.In_ok-rest ∙ heads rest c.in_ok-space.space c.in_ok-issuer.issuer (found at.In_ok-space) read.0 read.1))
