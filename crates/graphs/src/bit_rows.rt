@@ -104,6 +104,7 @@ impl BitRows {
         ensures complete { (k : ℕ) → Below (in_rows self.now.rows) from k → bit_at result k ≡ true }
     {
         let mut set = self.row(from);
+        // A `for`, whose range counts the levels down: the proof of a `fold` would have to itself.
         for level in (0..USER_LEVEL).rev() {
             set = self.with_next(set, level);
         }
