@@ -13,9 +13,9 @@ use Rattle.access.specs.Giving.{IsLowest}
 use denote.Param.Members.{Mut}
 
 -- `any` over 0..n decides whether some number passes, where only numbers below n pass
-pub any_decides : {F : Type 0} {g : Mut F (ℕ × Unit {0}) Bool} {n : ℕ} (u : Range ℕ) (f : F) (r : Bool) (P : ℕ → Type 0) → ((k : ℕ) → P k → k < n) → ChecksAny nat_range_steps g (record { start = 0; end = n }) f r u → ((x : ℕ) (b : Bool) (q : F) → Called g f (x, tt) b q → (q ≡ f) × Decides b (P x)) → Decides r ((k : ℕ) × P k)
-any_decides {n = n} u f r P low ran each =
-    by r (cases_from_any u f r P (λ x. P x → ⊥) ran (YieldsList-from_range 0 n n refl (omega arith))
+pub any_decides : {F : Type 0} {g : Mut F (ℕ × Unit {0}) Bool} {n : ℕ} (s u : Range ℕ) (f : F) (r : Bool) (P : ℕ → Type 0) → s ≡ record { start = 0; end = n } → ((k : ℕ) → P k → k < n) → ChecksAny nat_range_steps g s f r u → ((x : ℕ) (b : Bool) (q : F) → Called g f (x, tt) b q → (q ≡ f) × Decides b (P x)) → Decides r ((k : ℕ) × P k)
+any_decides {g = g} {n = n} s u f r P is low ran each =
+    by r (cases_from_any u f r P (λ x. P x → ⊥) (subst (λ t. ChecksAny nat_range_steps g t f r u) is ran) (YieldsList-from_range 0 n n refl (omega arith))
     (λ x q h. (each x true q h).1.0 refl)
     (λ x q h. let e = each x false q h in (e.0, λ p. both_ways false refl (e.1.1 p))))
   where
@@ -33,9 +33,10 @@ any_decides {n = n} u f r P low ran each =
     )
 
 -- the first number in 0..n that passes is the first of all, where only numbers below n pass
-pub first_below : {n : ℕ} (P : ℕ → Type 0) (r : Option ℕ) → ((k : ℕ) → P k → k < n) → MatchOption r ((k : ℕ) → 0 ≤ k → k < n → P k → ⊥) (λ i. (0 ≤ i) × (i < n) × P i × ((k : ℕ) → 0 ≤ k → k < i → P k → ⊥)) → IsLowest P r
-first_below P None low h = λ k p. h k (omega arith) (low k p) p
-first_below P (Some i) low h = (h.2, λ k lt. h.3 k (omega arith) lt)
+pub first_below : {n : ℕ} (s : Range ℕ) (P : ℕ → Type 0) (r : Option ℕ) → s.start ≡ 0 → s.end ≡ n → ((k : ℕ) → P k → k < n)
+    → MatchOption r ((k : ℕ) → s.start ≤ k → k < s.end → P k → ⊥) (λ i. (s.start ≤ i) × (i < s.end) × P i × ((k : ℕ) → s.start ≤ k → k < i → P k → ⊥)) → IsLowest P r
+first_below s P None from to low h = λ k p. h k (omega arith) (omega (arith, low k p)) p
+first_below s P (Some i) from to low h = (h.2, λ k lt. h.3 k (omega arith) lt)
 
 -- `fold` over m..n keeps what each call carries from one number to the next
 pub fold_keeps : {F C : Type 0} {g : Mut F (C × (ℕ × Unit {0})) C} (K : ℕ → C → Type 0) (f : F) → ((k : ℕ) (a b : C) (q : F) → K k a → Called g f (a, (k, tt)) b q → K (k + 1) b × (q ≡ f)) → (s : Range ℕ) (a r : C) → FoldsItems nat_range_steps g s f a r → (m n : ℕ) → s.start ≡ m → s.end ≡ n → m ≤ n → K m a → K n r

@@ -40,17 +40,9 @@ Carries g q r Neutral = ⊥
 abbrev pub Carried : {S : Type 0} → RoleGraph → Cells S → ℕ → Privilege → Principal → ℕ → Orientation → S → Type 0
 Carried g cells o p q r t s = Towards cells o p (Role r) t s × Carries g q r t
 
--- oriented up at a role that the principal reaches
-abbrev pub Rising : {S : Type 0} → RoleGraph → Cells S → ℕ → Privilege → Principal → ℕ → S → Type 0
-Rising g cells o p q r s = Towards cells o p (Role r) Up s × Reaches g q (Role r)
-
--- oriented down at a role that the principal is under
-abbrev pub Sinking : {S : Type 0} → RoleGraph → Cells S → ℕ → Privilege → Principal → ℕ → S → Type 0
-Sinking g cells o p q r s = Towards cells o p (Role r) Down s × IsUnder g q r
-
 -- from a role that the principal need not act as
 abbrev pub Inherited : {S : Type 0} → RoleGraph → Cells S → ℕ → Privilege → Principal → ℕ → S → Type 0
-Inherited g cells o p q r s = Rising g cells o p q r s ⊎ Sinking g cells o p q r s
+Inherited g cells o p q r s = Carried g cells o p q r Up s ⊎ Carried g cells o p q r Down s
 
 -- assigned to the role r, it reaches the principal
 abbrev pub From : {S : Type 0} → RoleGraph → Cells S → ℕ → Privilege → Principal → ℕ → S → Type 0

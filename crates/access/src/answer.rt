@@ -5,10 +5,10 @@ ghost use Rattle.access.specs.Reaching.{Assigned, IsAnswer, Strongest};
 ghost use Rattle.access.specs.Between.{BetweenRoles};
 ghost use Rattle.access.specs.RoleByRole.{ActsAs, IsUnder, Towards, Carries, Carried, Inherited, From, AsOwner, Apart, Added};
 
-use crate::access::Access;
+use crate::access::{Access, roles};
 use model::cell::Orientation;
 use model::graph::Graph;
-use model::principal::{Principal, ROLES};
+use model::principal::Principal;
 use model::right::Right;
 use model::scale::Scale;
 use model::store::Store;
@@ -51,7 +51,7 @@ impl<T, G: Graph> Access<'_, T, G> {
     fn is_under(&self, principal: Principal, role: u8) -> bool
         ensures { Decides result (IsUnder (G.meaning self.now.graph.now) principal role) }
     {
-        (0..ROLES).any(|held| self.acts_as(principal, held) && self.graph.is_above(role, held))
+        roles().any(|held| self.acts_as(principal, held) && self.graph.is_above(role, held))
     }
 
     // Whether what is oriented so at a role comes to the principal: up from a role that it reaches,
@@ -157,7 +157,7 @@ impl<T, G: Graph> Access<'_, T, G> {
         ensures between { BetweenRoles S.Scale.states (G.meaning self.now.graph.now) (listed self.now.directory.now) (T.cells self.now.store.now) }
     {
         self.store.sound();
-        (0..ROLES).fold(self.apart_from_roles(right, principal), |best, role| {
+        roles().fold(self.apart_from_roles(right, principal), |best, role| {
             self.with_role(right, principal, best, role)
         })
     }

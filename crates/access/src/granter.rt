@@ -3,9 +3,9 @@ ghost use Rattle.std.specs.Prelude.{◌≡◌, Decides, Option};
 ghost use Rattle.access.specs.Masters.{listed};
 ghost use Rattle.access.specs.Giving.{Optioned, InOwnRight, Through, IsLowest, GranterIs};
 
-use crate::access::Access;
+use crate::access::{Access, roles};
 use model::graph::Graph;
-use model::principal::{Principal, ROLES};
+use model::principal::Principal;
 use model::right::Right;
 use model::scale::Scale;
 use model::store::Store;
@@ -47,7 +47,7 @@ impl<T, G: Graph> Access<'_, T, G> {
         T: Store<S>,
         ensures { IsLowest (Through (G.meaning self.now.graph.now) (T.cells self.now.store.now) user right.object right.privilege) result }
     {
-        (0..ROLES).find(|role| self.gives_through(right, user, *role))
+        roles().find(|role| self.gives_through(right, user, *role))
     }
 
     // The owner and whoever has an option in its own right gives as itself; any other user as the

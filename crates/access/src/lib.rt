@@ -2,7 +2,7 @@
 #![tactic(auto)]
 
 pub mod access;
-pub mod answer;
+mod answer;
 pub mod directory;
-pub mod granter;
+mod granter;
 pub mod master;

@@ -44,16 +44,13 @@ fn all_calls(rt: &HostRuntime, text: &str) -> anyhow::Result<Vec<Call>> {
 fn print_short(rt: &HostRuntime, memory: &mut [Link], calls: &[Call]) -> anyhow::Result<()> {
     let records = memory.len();
     let mut list = LinkList::new(memory);
-    let mut full = false;
-    let mut added = false;
-    for call in calls {
-        let told = tell(&mut list, *call);
-        match *call {
-            Call::AskMemory => full |= told == Told::Flag(true),
-            Call::Add(_, _) => added |= told == Told::Flag(true),
-            _ => {}
-        }
-    }
+    let granted: Vec<Call> = calls
+        .iter()
+        .copied()
+        .filter(|call| tell(&mut list, *call) == Told::Flag(true))
+        .collect(rt.alloc())?;
+    let full = granted.iter().any(|call| matches!(call, Call::AskMemory));
+    let added = granted.iter().any(|call| matches!(call, Call::Add(_, _)));
     println!(rt; "over {records} records: full memory {full}, links added {added}")?;
     Ok(())
 }

@@ -1,5 +1,6 @@
 // Two graphs given the same calls tell the same.
 ghost use Rattle.std.specs.Prelude.{◌≡◌, ◌≤◌, true, length, is_some};
+ghost use Rattle.graph_trials.specs.Alike.{Alike};
 ghost use Rattle.graph_trials.specs.Calls.{Tells, after as after_call};
 
 use crate::call::{Call, Told};
@@ -25,11 +26,11 @@ pub fn tell<G: Graph>(graph: &mut G, call: Call) -> Told
     }
 }
 
-// Makes one call of two graphs: what both tell, if they tell the same. Graphs that mean the same
-// do, and mean the same afterwards.
+// Makes one call of two graphs: what both tell, if they tell the same. Graphs that mean the same,
+// with alike memory, do, and mean the same afterwards.
 pub fn tell_both<G: Graph, H: Graph>(one: &mut G, other: &mut H, call: Call) -> Option<Told>
-    ensures told { G.Graph.meaning one.old ≡ H.Graph.meaning other.old → G.Graph.full one.old ≡ H.Graph.full other.old → is_some result ≡ true }
-    ensures meaning { G.Graph.meaning one.old ≡ H.Graph.meaning other.old → G.Graph.full one.old ≡ H.Graph.full other.old → G.Graph.meaning one.new ≡ H.Graph.meaning other.new }
+    ensures told { Alike G.Graph H.Graph one.old other.old → is_some result ≡ true }
+    ensures after { Alike G.Graph H.Graph one.old other.old → Alike G.Graph H.Graph one.new other.new }
     ensures memory { G.Graph.full one.old ≡ H.Graph.full other.old → G.Graph.full one.new ≡ H.Graph.full other.new }
 {
     let first = tell(one, call);
@@ -39,15 +40,11 @@ pub fn tell_both<G: Graph, H: Graph>(one: &mut G, other: &mut H, call: Call) -> 
 
 // Whether two graphs tell the same at each of the calls. Graphs that mean the same do.
 pub fn tell_alike<G: Graph, H: Graph>(one: &mut G, other: &mut H, calls: &[Call]) -> bool
-    ensures { G.Graph.meaning one.old ≡ H.Graph.meaning other.old → G.Graph.full one.old ≡ H.Graph.full other.old → result ≡ true }
+    ensures { Alike G.Graph H.Graph one.old other.old → result ≡ true }
 {
-    // No `all`: its closure would change both graphs, and the proof would know nothing of them.
-    for call in calls {
-        if tell_both(one, other, *call).is_none() {
-            return false;
-        }
-    }
-    true
+    calls
+        .iter()
+        .all(|call| tell_both(one, other, *call).is_some())
 }
 
 // Whether new bit rows and a new link list tell the same at each of the calls: with full memory

@@ -1,5 +1,5 @@
 -- A new graph.
-use Rattle.std.proofs.Common.{◌≡◌, ℕ, zero, suc, Bool, false, ◌&&◌, ltb, List, get_or, replicate, Some, None, Option, sym, refl, ap, ◌∙◌, arith}
+use Rattle.std.proofs.Common.{◌≡◌, ℕ, Bool, false, ◌&&◌, ltb, List, replicate, Some, None, Option, sym, ap, ◌∙◌, arith}
 use mathlib.Core.Path.{fun_ext}
 use mathlib.Core.Bool.{and-false}
 use borrow.Author.Tests.{clash}
@@ -7,15 +7,11 @@ use Rattle.model.specs.declared.principal.Principal.{Principal}
 use Rattle.model.specs.Principals.{in_range}
 use Rattle.model.specs.LinkCount.{link_count}
 use Rattle.model.specs.Graphs.{new_graph}
+use Rattle.model.proofs.FoldLists.{replicate_at}
 use Rattle.model.proofs.LinkCounts.{count_none}
 use Rattle.graphs.specs.Levels.{level_in, graph_of, Low, Kept}
 use Rattle.graphs.specs.Rows.{bit_at, row_of, in_rows}
 use Rattle.graphs.proofs.SingleBits.{no_bit}
-
-replicate_at : {X : Type 0} (x : X) (n k : ℕ) → get_or (replicate n x) k x ≡ x
-replicate_at x zero k = refl
-replicate_at x (suc n) zero = refl
-replicate_at x (suc n) (suc k) = replicate_at x n k
 
 pub no_rows : (n : ℕ) → in_rows (replicate n 0) ≡ (λ _ _. false)
 unfolding in_rows

@@ -1,5 +1,5 @@
 // A role graph as rows of bits: for each of the 128 principals the roles that its links lead to.
-ghost use Rattle.std.specs.Prelude.{◌≡◌, ℕ, ◌<◌, true, ◌&&◌, ◌||◌, length, slice_index};
+ghost use Rattle.std.specs.Prelude.{◌≡◌, ℕ, ◌<◌, true, ◌||◌, length, slice_index};
 ghost use Rattle.model.specs.Principals.{in_range};
 ghost use Rattle.graphs.specs.Levels.{Kept};
 ghost use Rattle.graphs.specs.Rows.{row_of, in_rows, bit_at, some_below, leads, Below};
@@ -8,12 +8,14 @@ use crate::levels::Levels;
 use crate::link::{Link, has_room};
 use crate::role_set::RoleSet;
 use model::graph::Graph;
-use model::principal::{Principal, ROLES};
+use model::principal::{Principal, ROLES, USER_LEVEL, USERS};
+
+const PRINCIPALS: usize = USERS as usize + ROLES as usize;
 
 #[derive(Drop)]
 pub struct BitRows {
     levels: Levels,
-    rows: [RoleSet; 128],
+    rows: [RoleSet; PRINCIPALS],
     len: usize,
     ghost wide: { length rows ≡ 128 },
     ghost kept: { Kept levels.of_roles (in_rows rows) len },
@@ -25,10 +27,7 @@ fn row_of(principal: Principal) -> usize
     ensures row { result ≡ row_of principal }
     ensures within { result < 128 }
 {
-    match principal {
-        Principal::User(user) => user as usize,
-        Principal::Role(role) => 64 + role as usize,
-    }
+    principal.number().unwrap() as usize
 }
 
 impl BitRows {
@@ -41,7 +40,7 @@ impl BitRows {
     {
         BitRows {
             levels: Levels::new(),
-            rows: [RoleSet::new(); 128],
+            rows: [RoleSet::new(); PRINCIPALS],
             len: 0,
         }
     }
@@ -105,7 +104,8 @@ impl BitRows {
         ensures complete { (k : ℕ) → Below (in_rows self.now.rows) from k → bit_at result k ≡ true }
     {
         let mut set = self.row(from);
-        for level in (0..8).rev() {
+        // A `for`, whose range counts the levels down: the proof of a `fold` would have to itself.
+        for level in (0..USER_LEVEL).rev() {
             set = self.with_next(set, level);
         }
         set

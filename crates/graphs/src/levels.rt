@@ -9,15 +9,15 @@ use model::principal::{Principal, ROLES, is_role_level, user_level};
 
 #[derive(Drop)]
 pub(crate) struct Levels {
-    of_roles: [Option<u8>; 64],
+    of_roles: [Option<u8>; ROLES as usize],
     ghost sized: { length of_roles ≡ 64 },
     ghost low: { Low of_roles },
 }
 
-fn no_levels() -> [Option<u8>; 64]
+fn no_levels() -> [Option<u8>; ROLES as usize]
     ensures { result ≡ replicate 64 NoLevel }
 {
-    [None; 64]
+    [None; ROLES as usize]
 }
 
 impl Levels {

@@ -1,6 +1,6 @@
-// A role graph as a list of links, which are the first `len` records of a lent slice: a graph asks
-// for no memory of its own.
-ghost use Rattle.std.specs.Prelude.{◌≡◌, ℕ, ◌<◌, ◌≤◌, ◌-◌, true, length, is_some, IfSome, nat_le};
+// A role graph as a list of links, which are the first `len` records of a lent slice: it allocates
+// nothing.
+ghost use Rattle.std.specs.Prelude.{◌≡◌, ℕ, ◌<◌, ◌≤◌, true, length, is_some, IfSome, nat_le};
 ghost use Rattle.model.specs.declared.principal.Principal.TheVariants.{Role};
 ghost use Rattle.graphs.specs.Levels.{Kept};
 ghost use Rattle.graphs.specs.Records.{held, at_place, Distinct};

@@ -1,4 +1,4 @@
-use Rattle.std.proofs.Common.{ℕ, rules, arith}
+use Rattle.std.proofs.Common.{ℕ, rules, arith, ap}
 use Rattle.std.proofs.lemmas.Grind.{common_steps}
 use Rattle.access.specs.Masters.{listed}
 use Rattle.access.specs.Reaching.{Reaching, Strongest, IsAnswer}
@@ -23,7 +23,7 @@ returns g c =
     let init : Best 0 c.apart_from_roles.result = grind (arith, common_steps) in
     let best : IsAnswer st graph masters cells object privilege principal c.fold.result =
     so_far_all graph (g.met.G.Graph.sound c.args.self.now.graph.now) st masters cells object privilege law principal _
-    (fold_keeps Best _ (λ k a b f best call. (so_far_more st law graph masters cells object privilege principal k a b best (search rules), search rules)) _ _ _ c.fold.ensures.ran 0 64 (omega arith) (omega arith) (omega arith) init) in
+    (fold_keeps Best _ (λ k a b f best call. (so_far_more st law graph masters cells object privilege principal k a b best (search rules), search rules)) _ _ _ c.fold.ensures.ran 0 64 (ap (λ s. s.start) c.roles.ensures) (ap (λ s. s.end) c.roles.ensures) (omega arith) init) in
     record {
       answer = best;
       only = λ s h. strongest_only st law (Reaching st graph masters cells object privilege principal) s _ h best;
