@@ -13,6 +13,7 @@ use Rattle.model.specs.Folds.{count_below, any_below, join_below}
 use Rattle.model.specs.declared.principal.Principal.{Principal}
 use Rattle.model.specs.declared.privilege.Privilege.{Privilege}
 use Rattle.model.specs.declared.cell.Orientation.{Orientation}
+use Rattle.model.proofs.FoldLists.{replicate_at}
 use Rattle.model.proofs.Outside.{answers_outside_lem}
 use Rattle.model.proofs.Numbering.{number_in}
 use Rattle.bitmap.specs.declared.row.Row.{Row}
@@ -61,12 +62,7 @@ items_kept (x ∷ xs) (suc o) = items_kept xs o
 -- a table whose rows are all empty
 rows_empty : (n o : ℕ) (x : ObjectItems) (i : ℕ) → x.rows ≡ replicate 16 empty_row → row_at (rows_of (replicate n x) o) i ≡ empty_row
 rows_empty zero o x i e = refl
-rows_empty (suc n) zero x i e = ap (λ (rows : List Row). row_at rows i) e ∙ row_empty 16 i
-  where
-    row_empty : (n i : ℕ) → row_at (replicate n empty_row) i ≡ empty_row
-    row_empty zero i = refl
-    row_empty (suc n) zero = refl
-    row_empty (suc n) (suc i) = row_empty n i
+rows_empty (suc n) zero x i e = ap (λ (rows : List Row). row_at rows i) e ∙ replicate_at empty_row 16 i
 rows_empty (suc n) (suc o) x i e = rows_empty n o x i e
 
 cell_empty : (n : ℕ) (x : ObjectItems) → x.rows ≡ replicate 16 empty_row → (o g e k : ℕ) → numbered five (items_at (replicate n x)) o g e k ≡ unassigned five

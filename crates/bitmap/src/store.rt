@@ -7,7 +7,7 @@ ghost use Rattle.scales.specs.Five.{five};
 ghost use Rattle.bitmap.specs.Objects.{rows_of, table_cells};
 
 use crate::object_items::ObjectItems;
-use crate::pair::{Pair, number};
+use crate::pair::Pair;
 use crate::table::BitmapTable;
 use model::cell::{Cell, Orientation};
 use model::object::is_object;
@@ -41,7 +41,7 @@ impl BitmapTable {
         ensures rows { IfSome result (λ found. found.0.now.rows ≡ rows_of self.now.objects object) }
         ensures grantee { IfSome result (λ found. found.1 ≡ number_of grantee) }
     {
-        Some((self.items(object)?, number(grantee)?))
+        Some((self.items(object)?, grantee.number()?))
     }
 }
 
