@@ -26,18 +26,11 @@ fn is_assigned(state: FiveState) -> bool
 }
 
 impl Row {
+    // As one value: the derived `default` promises each field alone.
     fn empty() -> Row
         ensures { result ≡ empty_row }
     {
-        Row {
-            granter: 0,
-            grantee: 0,
-            acl: 0,
-            taint: 0,
-            suspend: 0,
-            deny: 0,
-            neut: 0,
-        }
+        Row::default()
     }
 
     // Whether any of its cells is not unassign.
