@@ -4,7 +4,6 @@ ghost use Rattle.std.specs.List.{list_any};
 ghost use Rattle.model.specs.Allowed.{is_allowed};
 ghost use Rattle.model.specs.Joining.{joining};
 ghost use Rattle.model.specs.Privileges.{bit as bit_of};
-ghost use Rattle.model.specs.States.{join as join_of};
 ghost use Rattle.model.specs.Stores.{assigned};
 ghost use Rattle.scales.specs.Five.{five};
 ghost use Rattle.bitmap.specs.Items.{pair_of, RoomFor, ItemSet, Written};
@@ -118,7 +117,7 @@ impl ObjectItems {
         ensures { result ≡ rows_strongest grantee (bit_of privilege) orientation self.now.rows }
     {
         self.rows.iter().fold(FiveState::Unassign, |before, row| {
-            joined(row.state_for(grantee, privilege, orientation), before)
+            row.state_for(grantee, privilege, orientation).join(before)
         })
     }
 
@@ -170,11 +169,4 @@ fn put_back(rows: &mut [Row], i: usize, item: Item)
 {
     let row = &mut rows[i];
     row.put_back(item);
-}
-
-// The next state, joined with those before it.
-fn joined(next: FiveState, before: FiveState) -> FiveState
-    ensures { result ≡ join_of five next before }
-{
-    next.join(before)
 }
