@@ -103,13 +103,6 @@ fn state_of<S: Scale>(
     }
 }
 
-// The next state, joined with those before it.
-fn joined<S: Scale>(next: S, before: S) -> S
-    ensures { result ≡ join_of S.Scale.states next before }
-{
-    next.join(before)
-}
-
 pub(crate) fn strongest<S: Scale>(
     records: &[CellRecord<S>],
     right: Right,
@@ -119,7 +112,7 @@ pub(crate) fn strongest<S: Scale>(
     ensures { result ≡ fold (λ x r. join_of S.Scale.states (state_by (joining S.Scale.states) right grantee orientation r.place (cell_of_record S.Scale.states r)) x) S.Scale.states.unassign records.now }
 {
     records.iter().fold(S::unassign(), |strongest, slot| {
-        joined(state_of(slot, right, grantee, orientation), strongest)
+        state_of(slot, right, grantee, orientation).join(strongest)
     })
 }
 
