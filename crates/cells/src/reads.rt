@@ -47,10 +47,7 @@ pub(crate) fn is_pair_used<S: Scale>(records: &[CellRecord<S>], pair: Pair) -> b
 fn is_pair_before<S: Scale>(records: &[CellRecord<S>], i: usize, pair: Pair) -> bool
     ensures { result ≡ list_any (λ r. is_of r.place pair.object pair.granter pair.grantee) (take i records.now) }
 {
-    records
-        .iter()
-        .take(i)
-        .any(|slot| is_of_pair(slot.place, pair))
+    is_pair_used(records.get(..i).unwrap_or(records), pair)
 }
 
 // Whether record i, at a place, is at the object and the first of its pair.
