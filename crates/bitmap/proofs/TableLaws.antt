@@ -110,6 +110,18 @@ module _ (xs : List ObjectItems) (o : ℕ) (inside : object_in_range o ≡ true)
         ∙ ap (λ (r : List Row). join_below (joining five) 16 (state_in (joining five) (items_of r) (number e) (bit p) t)) is
         ∙ sym (tell_strongest five five_lawful (items_at xs) o p e t below there (items_kept xs o))
 
+-- the same of items that are found with a grantee's number
+module _ (xs : List ObjectItems) (o : ℕ) (e : Principal) (p : Privilege) where
+  pub option_found : (x : ObjectItems) (n : ℕ) → (object_in_range o && in_range e) ≡ true → x.rows ≡ rows_of xs o → n ≡ number e → list_any (row_option n (bit p)) x.rows ≡ has_option (table_cells xs) o p e
+  option_found x n there is number_is =
+      let both = and_parts (object_in_range o) (in_range e) there in
+      ap (λ (n : ℕ). list_any (row_option n (bit p)) x.rows) number_is ∙ option_told xs o both.0 x is e p both.1
+
+  pub strongest_found : (t : Orientation) (x : ObjectItems) (n : ℕ) → (object_in_range o && in_range e) ≡ true → x.rows ≡ rows_of xs o → n ≡ number e → rows_strongest n (bit p) t x.rows ≡ strongest (joining five) (table_cells xs) o p e t
+  strongest_found t x n there is number_is =
+      let both = and_parts (object_in_range o) (in_range e) there in
+      ap (λ (n : ℕ). rows_strongest n (bit p) t x.rows) number_is ∙ strongest_told xs o both.0 x is e p both.1 t
+
 pub pair_read : {g g' e e' : ℕ} → g ≡ g' → e ≡ e' → pair_of g e ≡ pair_of g' e'
 pair_read {g} {g'} {e} {e'} p q = ap (λ (n : ℕ). pair_of n e) p ∙ ap (λ (n : ℕ). pair_of g' n) q
 
