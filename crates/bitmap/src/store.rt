@@ -67,10 +67,9 @@ impl Store<FiveState> for BitmapTable {
     }
 
     fn has_option(&self, right: Right, grantee: Principal) -> bool {
-        self.items_for(right.object, grantee).is_some_and(|(items, grantee)| items.has_option(
-            grantee,
-            right.privilege,
-        ))
+        self.items_for(right.object, grantee).is_some_and(|(items, grantee)| {
+            items.has_option(grantee, right.privilege)
+        })
     }
 
     fn strongest(&self, right: Right, grantee: Principal, orientation: Orientation) -> FiveState {
