@@ -18,6 +18,7 @@ use model::privilege::Privilege;
 use model::scale::Scale;
 use scales::five::FiveState;
 
+// Thin, for its clause, on which the proofs of both callers stand.
 fn is_assigned(state: FiveState) -> bool
     ensures { result ≡ assigned (joining five) state }
 {

@@ -113,6 +113,7 @@ pub(crate) fn strongest<S: Scale>(
     })
 }
 
+// Thin, for its clause: the state of a cell that has no record.
 pub(crate) fn is_unassign<S: Scale>(state: S) -> bool
     ensures { result ≡ same_of S.Scale.states state S.Scale.states.unassign }
 {
