@@ -13,6 +13,7 @@ use Rattle.model.specs.Folds.{count_below, any_below, join_below}
 use Rattle.model.specs.declared.principal.Principal.{Principal}
 use Rattle.model.specs.declared.privilege.Privilege.{Privilege}
 use Rattle.model.specs.declared.cell.Orientation.{Orientation}
+use Rattle.model.proofs.FoldLists.{replicate_at}
 use Rattle.model.proofs.Outside.{answers_outside_lem}
 use Rattle.model.proofs.Numbering.{number_in}
 use Rattle.bitmap.specs.declared.row.Row.{Row}
@@ -61,12 +62,7 @@ items_kept (x ∷ xs) (suc o) = items_kept xs o
 -- a table whose rows are all empty
 rows_empty : (n o : ℕ) (x : ObjectItems) (i : ℕ) → x.rows ≡ replicate 16 empty_row → row_at (rows_of (replicate n x) o) i ≡ empty_row
 rows_empty zero o x i e = refl
-rows_empty (suc n) zero x i e = ap (λ (rows : List Row). row_at rows i) e ∙ row_empty 16 i
-  where
-    row_empty : (n i : ℕ) → row_at (replicate n empty_row) i ≡ empty_row
-    row_empty zero i = refl
-    row_empty (suc n) zero = refl
-    row_empty (suc n) (suc i) = row_empty n i
+rows_empty (suc n) zero x i e = ap (λ (rows : List Row). row_at rows i) e ∙ replicate_at empty_row 16 i
 rows_empty (suc n) (suc o) x i e = rows_empty n o x i e
 
 cell_empty : (n : ℕ) (x : ObjectItems) → x.rows ≡ replicate 16 empty_row → (o g e k : ℕ) → numbered five (items_at (replicate n x)) o g e k ≡ unassigned five
@@ -113,6 +109,18 @@ module _ (xs : List ObjectItems) (o : ℕ) (inside : object_in_range o ≡ true)
         strongest_of x (number e) (bit p) t
         ∙ ap (λ (r : List Row). join_below (joining five) 16 (state_in (joining five) (items_of r) (number e) (bit p) t)) is
         ∙ sym (tell_strongest five five_lawful (items_at xs) o p e t below there (items_kept xs o))
+
+-- the same of items that are found with a grantee's number
+module _ (xs : List ObjectItems) (o : ℕ) (e : Principal) (p : Privilege) where
+  pub option_found : (x : ObjectItems) (n : ℕ) → (object_in_range o && in_range e) ≡ true → x.rows ≡ rows_of xs o → n ≡ number e → list_any (row_option n (bit p)) x.rows ≡ has_option (table_cells xs) o p e
+  option_found x n there is number_is =
+      let both = and_parts (object_in_range o) (in_range e) there in
+      ap (λ (n : ℕ). list_any (row_option n (bit p)) x.rows) number_is ∙ option_told xs o both.0 x is e p both.1
+
+  pub strongest_found : (t : Orientation) (x : ObjectItems) (n : ℕ) → (object_in_range o && in_range e) ≡ true → x.rows ≡ rows_of xs o → n ≡ number e → rows_strongest n (bit p) t x.rows ≡ strongest (joining five) (table_cells xs) o p e t
+  strongest_found t x n there is number_is =
+      let both = and_parts (object_in_range o) (in_range e) there in
+      ap (λ (n : ℕ). rows_strongest n (bit p) t x.rows) number_is ∙ strongest_told xs o both.0 x is e p both.1 t
 
 pub pair_read : {g g' e e' : ℕ} → g ≡ g' → e ≡ e' → pair_of g e ≡ pair_of g' e'
 pair_read {g} {g'} {e} {e'} p q = ap (λ (n : ℕ). pair_of n e) p ∙ ap (λ (n : ℕ). pair_of g' n) q

@@ -209,11 +209,7 @@ impl Item {
         ensures { MatchOption result (Allowed five cell.now → ⊥)
             (λ item. CellSet self.row item.row (bit_of privilege) cell.now) }
     {
-        if cell.is_allowed() {
-            Some(self.with_cell(privilege, *cell))
-        } else {
-            None
-        }
+        cell.is_allowed().then(|| self.with_cell(privilege, *cell))
     }
 
     pub(crate) fn with_cell(self, privilege: Privilege, cell: Cell<FiveState>) -> Item

@@ -4,7 +4,6 @@ ghost use Rattle.std.specs.List.{list_any};
 ghost use Rattle.model.specs.Allowed.{is_allowed};
 ghost use Rattle.model.specs.Joining.{joining};
 ghost use Rattle.model.specs.Privileges.{bit as bit_of};
-ghost use Rattle.model.specs.States.{join as join_of};
 ghost use Rattle.model.specs.Stores.{assigned};
 ghost use Rattle.scales.specs.Five.{five};
 ghost use Rattle.bitmap.specs.Items.{pair_of, RoomFor, ItemSet, Written};
@@ -19,6 +18,7 @@ use model::privilege::Privilege;
 use model::scale::Scale;
 use scales::five::FiveState;
 
+// Thin, for its clause, on which the proofs of both callers stand.
 fn is_assigned(state: FiveState) -> bool
     ensures { result ≡ assigned (joining five) state }
 {
@@ -26,18 +26,11 @@ fn is_assigned(state: FiveState) -> bool
 }
 
 impl Row {
+    // As one value: the derived `default` promises each field alone.
     fn empty() -> Row
         ensures { result ≡ empty_row }
     {
-        Row {
-            granter: 0,
-            grantee: 0,
-            acl: 0,
-            taint: 0,
-            suspend: 0,
-            deny: 0,
-            neut: 0,
-        }
+        Row::default()
     }
 
     // Whether any of its cells is not unassign.
@@ -125,7 +118,7 @@ impl ObjectItems {
         ensures { result ≡ rows_strongest grantee (bit_of privilege) orientation self.now.rows }
     {
         self.rows.iter().fold(FiveState::Unassign, |before, row| {
-            joined(row.state_for(grantee, privilege, orientation), before)
+            row.state_for(grantee, privilege, orientation).join(before)
         })
     }
 
@@ -177,11 +170,4 @@ fn put_back(rows: &mut [Row], i: usize, item: Item)
 {
     let row = &mut rows[i];
     row.put_back(item);
-}
-
-// The next state, joined with those before it.
-fn joined(next: FiveState, before: FiveState) -> FiveState
-    ensures { result ≡ join_of five next before }
-{
-    next.join(before)
 }

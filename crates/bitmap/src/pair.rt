@@ -1,9 +1,8 @@
-// The numbers of principals: users first, then roles.
 ghost use Rattle.std.specs.Prelude.{◌≡◌, ◌<◌, ◌&&◌, IfSome, is_some};
 ghost use Rattle.model.specs.Principals.{in_range};
 ghost use Rattle.model.specs.Places.{number as number_of};
 
-use model::principal::{Principal, ROLES, USERS};
+use model::principal::Principal;
 
 // The numbers of a granter and a grantee.
 #[derive(Clone, Copy)]
@@ -22,21 +21,8 @@ impl Pair {
         ensures grantee { IfSome result (λ pair. pair.grantee ≡ number_of grantee) }
     {
         Some(Pair {
-            granter: number(granter)?,
-            grantee: number(grantee)?,
+            granter: granter.number()?,
+            grantee: grantee.number()?,
         })
-    }
-}
-
-// The number of a principal, if there can be such a one.
-pub(crate) fn number(principal: Principal) -> Option<u8>
-    ensures in_range { is_some result ≡ in_range principal }
-    ensures value { IfSome result (λ n. n ≡ number_of principal) }
-    ensures below { IfSome result (λ n. n < 128) }
-{
-    match principal {
-        Principal::User(user) if user < USERS => Some(user),
-        Principal::Role(role) if role < ROLES => Some(USERS + role),
-        _ => None,
     }
 }

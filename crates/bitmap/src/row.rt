@@ -1,5 +1,5 @@
 // An item as it lies in the table: the numbers of its granter and grantee, and its five fields.
-#[derive(Clone, Copy, Debug, PartialEq, Eq)]
+#[derive(Clone, Copy, Debug, Default, PartialEq, Eq)]
 pub struct Row {
     pub granter: u8,
     pub grantee: u8,

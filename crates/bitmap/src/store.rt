@@ -7,7 +7,7 @@ ghost use Rattle.scales.specs.Five.{five};
 ghost use Rattle.bitmap.specs.Objects.{rows_of, table_cells};
 
 use crate::object_items::ObjectItems;
-use crate::pair::{Pair, number};
+use crate::pair::Pair;
 use crate::table::BitmapTable;
 use model::cell::{Cell, Orientation};
 use model::object::is_object;
@@ -41,7 +41,7 @@ impl BitmapTable {
         ensures rows { IfSome result (λ found. found.0.now.rows ≡ rows_of self.now.objects object) }
         ensures grantee { IfSome result (λ found. found.1 ≡ number_of grantee) }
     {
-        Some((self.items(object)?, number(grantee)?))
+        Some((self.items(object)?, grantee.number()?))
     }
 }
 
@@ -56,10 +56,7 @@ impl Store<FiveState> for BitmapTable {
     }
 
     fn pairs_in_use(&self, object: u8) -> usize {
-        match self.items(object) {
-            Some(items) => items.count(),
-            None => 0,
-        }
+        self.items(object).map_or(0, |items| items.count())
     }
 
     fn is_pair_in_use(&self, object: u8, granter: Principal, grantee: Principal) -> bool {
@@ -70,17 +67,16 @@ impl Store<FiveState> for BitmapTable {
     }
 
     fn has_option(&self, right: Right, grantee: Principal) -> bool {
-        let Some((items, grantee)) = self.items_for(right.object, grantee) else {
-            return false;
-        };
-        items.has_option(grantee, right.privilege)
+        self.items_for(right.object, grantee).is_some_and(|(items, grantee)| {
+            items.has_option(grantee, right.privilege)
+        })
     }
 
     fn strongest(&self, right: Right, grantee: Principal, orientation: Orientation) -> FiveState {
-        let Some((items, grantee)) = self.items_for(right.object, grantee) else {
-            return FiveState::Unassign;
-        };
-        items.strongest(grantee, right.privilege, orientation)
+        self.items_for(right.object, grantee)
+            .map_or(FiveState::Unassign, |(items, grantee)| {
+                items.strongest(grantee, right.privilege, orientation)
+            })
     }
 
     fn write(&mut self, place: Place, cell: &Cell<FiveState>) -> bool {

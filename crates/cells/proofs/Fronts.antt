@@ -1,18 +1,15 @@
 -- What the first n records of a list answer, from what each of them answers.
-use Rattle.std.proofs.Common.{◌≡◌, ℕ, zero, suc, ◌<◌, ◌≤◌, Bool, cond, not, ◌&&◌, ◌||◌, eqb, ltb, List, [], ◌∷◌, length, take, get_or, Some, None, count_by, fold, MatchOption, sym, refl, ap, ◌∙◌, subst, ⊎_elim, add-one, zero-add, arith}
+use Rattle.std.proofs.Common.{◌≡◌, ℕ, zero, suc, ◌<◌, ◌≤◌, Bool, cond, not, ◌&&◌, eqb, ltb, List, [], ◌∷◌, length, take, get_or, Some, None, count_by, MatchOption, sym, refl, ap, ◌∙◌, subst, ⊎_elim, zero-add, arith}
 use Rattle.std.specs.List.{list_any, enumerate_from, position_or_len, position}
-use Rattle.std.proofs.Math.Bool.{or_comm}
 use Rattle.std.proofs.lemmas.Bool.{both_ways, cases_Bool, eqb-true, and_left, ltb-true, ltb-false}
 use Rattle.std.proofs.lemmas.List.{length-take-le, get_or-take, take_all}
 use Rattle.std.proofs.lemmas.List.FromFn.{length-enumerate_from, get_or-enumerate_from}
-use Rattle.std.proofs.lemmas.List.Folds.{list_any_more}
-use Rattle.std.proofs.lemmas.List.Sums.{fold_more, count_by_more_yes, count_by_more_no, fails_before_first, passes_at_first}
-use Rattle.model.specs.States.{States, join}
-use Rattle.model.specs.Joining.{joining}
-use Rattle.model.specs.Folds.{one_if, any_below, count_below, join_below}
+use Rattle.std.proofs.lemmas.List.Sums.{fails_before_first, passes_at_first}
+use Rattle.model.specs.Folds.{count_below}
 use Rattle.model.specs.Places.{place_in_range, same_place}
 use Rattle.model.specs.declared.place.Place.{Place}
 use Rattle.model.specs.declared.principal.Principal.{Principal}
+use Rattle.model.proofs.FoldLists.{any_front, count_front}
 use Rattle.model.proofs.Numbering.{same_true, true_same}
 use Rattle.cells.specs.declared.record.CellRecord.{CellRecord}
 use Rattle.cells.specs.Kept.{part_at, place_at, nowhere, is_of, used_in, pairs_in, first_of, first_at, Ranged}
@@ -32,40 +29,9 @@ module _ {S : Type 0} (xs : List (CellRecord S)) (d : CellRecord S) where
   pub place_of : (i : ℕ) → i < length xs → place_at xs i ≡ (get_or xs i d).place
   place_of i lt = sym (part_read (λ r. r.place) nowhere xs i d lt)
 
-  pub any_of_front : (p : CellRecord S → Bool) (q : ℕ → Bool) (n : ℕ) → n ≤ length xs → ((i : ℕ) → i < n → q i ≡ p (get_or xs i d)) → list_any p (take n xs) ≡ any_below n q
-  unfolding any_below
-  any_of_front p q zero le h = refl
-  any_of_front p q (suc n) le h =
-      ap (λ (m : ℕ). list_any p (take m xs)) (sym (add-one n))
-      ∙ list_any_more p xs n d (omega arith)
-      ∙ or_comm (list_any p (take n xs)) (p (get_or xs n d))
-      ∙ ap (λ (b : Bool). b || list_any p (take n xs)) (sym (h n (omega arith)))
-      ∙ ap (λ (b : Bool). q n || b) (any_of_front p q n (omega arith) (λ i lt. h i (omega arith)))
-
-  pub join_of_front : (s : States S) (f : CellRecord S → S) (h : ℕ → S) (n : ℕ) → n ≤ length xs → ((i : ℕ) → i < n → h i ≡ f (get_or xs i d)) → fold (λ x r. join s (f r) x) s.unassign (take n xs) ≡ join_below (joining s) n h
-  unfolding join_below
-  join_of_front s f h zero le same = refl
-  join_of_front s f h (suc n) le same =
-      ap (λ (m : ℕ). fold (λ x r. join s (f r) x) s.unassign (take m xs)) (sym (add-one n))
-      ∙ fold_more (λ x r. join s (f r) x) s.unassign xs n d (omega arith)
-      ∙ ap (λ (y : S). join s y (fold (λ x r. join s (f r) x) s.unassign (take n xs))) (sym (same n (omega arith)))
-      ∙ ap (join s (h n)) (join_of_front s f h n (omega arith) (λ i lt. same i (omega arith)))
-
   pub used_of_front : (n o : ℕ) (g e : Principal) → n ≤ length xs → list_any (λ r. is_of r.place o g e) (take n xs) ≡ used_in (place_at xs) n o g e
   unfolding used_in
-  used_of_front n o g e le = any_of_front (λ r. is_of r.place o g e) (λ i. is_of (place_at xs i) o g e) n le (λ i lt. ap (λ (a : Place). is_of a o g e) (place_of i (omega arith)))
-
-  count_of : (p : ℕ × CellRecord S → Bool) (q : ℕ → Bool) (ys : List (ℕ × CellRecord S)) (e : ℕ × CellRecord S) (n : ℕ) → n ≤ length ys → ((i : ℕ) → i < n → p (get_or ys i e) ≡ q i) → count_by p (take n ys) ≡ count_below n q
-  unfolding count_below
-  count_of p q ys e zero le h = refl
-  count_of p q ys e (suc n) le h =
-      let rest : count_by p (take n ys) ≡ count_below n q = count_of p q ys e n (omega arith) (λ i lt. h i (omega arith)) in
-      let one : one_if (p (get_or ys n e)) ≡ one_if (q n) = ap one_if (h n (omega arith)) in
-      ap (λ (m : ℕ). count_by p (take m ys)) (sym (add-one n))
-      ∙ ⊎_elim
-      (λ yes. let is : one_if (p (get_or ys n e)) ≡ 1 = ap one_if yes in let more = count_by_more_yes p ys n e (omega arith) yes in omega arith)
-      (λ no. let is : one_if (p (get_or ys n e)) ≡ 0 = ap one_if no in let more = count_by_more_no p ys n e (omega arith) no in omega arith)
-      (cases_Bool (p (get_or ys n e)))
+  used_of_front n o g e le = any_front (λ r. is_of r.place o g e) xs d (λ i. is_of (place_at xs i) o g e) n le (λ i lt. ap (λ (a : Place). is_of a o g e) (sym (place_of i (omega arith))))
 
   -- the first of its pair at an object, by the records before it
   first_is : (i o : ℕ) → i < length xs → first_of xs o (i, (get_or xs i d).place) ≡ first_at (place_at xs) o i
@@ -83,7 +49,7 @@ module _ {S : Type 0} (xs : List (CellRecord S)) (d : CellRecord S) where
       let read : (i : ℕ) → i < length ys → test (get_or ys i (0, d)) ≡ first_at (place_at xs) o i =
       λ i lt. ap test (get_or-enumerate_from 0 xs i (0, d) (omega arith)) ∙ ap (λ (k : ℕ). first_of xs o (k, (get_or xs i d).place)) (zero-add i) ∙ first_is i o (omega arith) in
       ap (count_by test) (sym (take_all (length ys) ys (omega arith)))
-      ∙ count_of test (first_at (place_at xs) o) ys (0, d) (length ys) (omega arith) read
+      ∙ count_front test ys (0, d) (first_at (place_at xs) o) (length ys) (omega arith) read
       ∙ ap (λ (n : ℕ). count_below n (first_at (place_at xs) o)) long
       ∙ sym (pairs_counted (place_at xs) (length xs) o ok)
 

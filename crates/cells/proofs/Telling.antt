@@ -21,13 +21,14 @@ use Rattle.model.proofs.Counting.{any_some, any_iff, count_same}
 use Rattle.model.proofs.JoinFolds.{same_joined}
 use Rattle.model.proofs.Numbering.{number_in, at_number, bit_below, at_bit, bit_same, principal_same, same_principals, place_eq}
 use Rattle.model.proofs.Outside.{towards_none, unassigned_none, unassigned_allowed, answers_outside_lem}
+use Rattle.model.proofs.FoldLists.{any_front, join_front}
 use Rattle.cells.specs.declared.record.CellRecord.{CellRecord}
 use Rattle.cells.specs.Kept.{place_at, nowhere, is_of, used_in, pairs_in, first_of, Kept}
 use Rattle.cells.specs.Listed.{cell_of_record, record_of, cell_at, list_cells, is_for, option_by, state_by}
 use Rattle.cells.proofs.Records.{part_read, state_cell, record_allowed}
 use Rattle.cells.proofs.Found.{search_place, held_none, held_one}
 use Rattle.cells.proofs.PairCounts.{of_parts, of_from, range_parts, pairs_start}
-use Rattle.cells.proofs.Fronts.{place_of, any_of_front, join_of_front, used_of_front, pairs_of_front}
+use Rattle.cells.proofs.Fronts.{place_of, used_of_front, pairs_of_front}
 
 -- the place where a granter gives a grantee a right
 abbrev given : Right → Principal → Principal → Place
@@ -128,6 +129,10 @@ module _ {S : Type 0} (s : States S) (law : Lawful s) (xs : List (CellRecord S))
   cell_of : (i : ℕ) → i < n → cell_at s xs i ≡ cell_of_record s (get_or xs i nothing)
   cell_of i lt = sym (part_read (cell_of_record s) (unassigned s) xs i nothing (omega (arith, kept.within)))
 
+  -- what is read of a record's place and cell
+  read_as : {A : Type 0} (f : Place → Cell S → A) (i : ℕ) → i < n → f (place_at xs i) (cell_at s xs i) ≡ f (get_or xs i nothing).place (cell_of_record s (get_or xs i nothing))
+  read_as f i lt = ap (λ (a : Place). f a (cell_at s xs i)) (place_of xs nothing i (omega (arith, kept.within))) ∙ ap (f (get_or xs i nothing).place) (cell_of i lt)
+
   -- what the records that count answer
   pub tell_used : (o : ℕ) (g e : Principal) → list_any (λ r. is_of r.place o g e) (take n xs) ≡ in_use (joining s) (list_cells s xs n) o g e
   tell_used o g e = used_of_front xs nothing n o g e kept.within ∙ used_told o g e
@@ -137,14 +142,12 @@ module _ {S : Type 0} (s : States S) (law : Lawful s) (xs : List (CellRecord S))
 
   pub tell_option : (r : Right) (e : Principal) → list_any (λ x. option_by r e x.place (cell_of_record s x)) (take n xs) ≡ has_option (list_cells s xs n) r.object r.privilege e
   tell_option r e =
-      any_of_front xs nothing (λ x. option_by r e x.place (cell_of_record s x)) (λ i. option_by r e (place_at xs i) (cell_at s xs i)) n kept.within
-      (λ i lt. ap (λ (a : Place). option_by r e a (cell_at s xs i)) (place_of xs nothing i (omega (arith, kept.within))) ∙ ap (option_by r e (get_or xs i nothing).place) (cell_of i lt))
+      any_front (λ x. option_by r e x.place (cell_of_record s x)) xs nothing (λ i. option_by r e (place_at xs i) (cell_at s xs i)) n kept.within (λ i lt. sym (read_as (option_by r e) i lt))
       ∙ option_is r e
 
   pub tell_strongest : (r : Right) (e : Principal) (t : Orientation) → fold (λ x y. join s (state_by (joining s) r e t y.place (cell_of_record s y)) x) s.unassign (take n xs) ≡ strongest (joining s) (list_cells s xs n) r.object r.privilege e t
   tell_strongest r e t =
-      join_of_front xs nothing s (λ y. state_by (joining s) r e t y.place (cell_of_record s y)) (λ i. state_by (joining s) r e t (place_at xs i) (cell_at s xs i)) n kept.within
-      (λ i lt. ap (λ (a : Place). state_by (joining s) r e t a (cell_at s xs i)) (place_of xs nothing i (omega (arith, kept.within))) ∙ ap (state_by (joining s) r e t (get_or xs i nothing).place) (cell_of i lt))
+      join_front (joining s) (λ y. state_by (joining s) r e t y.place (cell_of_record s y)) xs nothing (λ i. state_by (joining s) r e t (place_at xs i) (cell_at s xs i)) n kept.within (λ i lt. sym (read_as (state_by (joining s) r e t) i lt))
       ∙ strongest_is r e t
 
   pub list_sound : Sound s (list_cells s xs n)

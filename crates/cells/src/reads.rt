@@ -47,10 +47,7 @@ pub(crate) fn is_pair_used<S: Scale>(records: &[CellRecord<S>], pair: Pair) -> b
 fn is_pair_before<S: Scale>(records: &[CellRecord<S>], i: usize, pair: Pair) -> bool
     ensures { result ≡ list_any (λ r. is_of r.place pair.object pair.granter pair.grantee) (take i records.now) }
 {
-    records
-        .iter()
-        .take(i)
-        .any(|slot| is_of_pair(slot.place, pair))
+    is_pair_used(records.get(..i).unwrap_or(records), pair)
 }
 
 // Whether record i, at a place, is at the object and the first of its pair.
@@ -103,13 +100,6 @@ fn state_of<S: Scale>(
     }
 }
 
-// The next state, joined with those before it.
-fn joined<S: Scale>(next: S, before: S) -> S
-    ensures { result ≡ join_of S.Scale.states next before }
-{
-    next.join(before)
-}
-
 pub(crate) fn strongest<S: Scale>(
     records: &[CellRecord<S>],
     right: Right,
@@ -119,10 +109,11 @@ pub(crate) fn strongest<S: Scale>(
     ensures { result ≡ fold (λ x r. join_of S.Scale.states (state_by (joining S.Scale.states) right grantee orientation r.place (cell_of_record S.Scale.states r)) x) S.Scale.states.unassign records.now }
 {
     records.iter().fold(S::unassign(), |strongest, slot| {
-        joined(state_of(slot, right, grantee, orientation), strongest)
+        state_of(slot, right, grantee, orientation).join(strongest)
     })
 }
 
+// Thin, for its clause: the state of a cell that has no record.
 pub(crate) fn is_unassign<S: Scale>(state: S) -> bool
     ensures { result ≡ same_of S.Scale.states state S.Scale.states.unassign }
 {

@@ -45,6 +45,7 @@ pub fn write_all<S: Scale, A: Store<S>, B: Store<S>>(
     ensures after { Alike A.Store B.Store a.old b.old → Alike A.Store B.Store a.new b.new }
 {
     let mut alike = true;
+    // Not by `fold`: of stores that a closure borrows and changes a proof learns nothing.
     for write in writes {
         alike &= write_both(a, b, write);
     }
