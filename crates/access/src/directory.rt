@@ -10,6 +10,7 @@ use std::marker::Model;
 
 #[derive(Drop)]
 pub struct Directory {
+    // of a fixed length: nothing here may allocate
     entries: [Option<Master>; OBJECTS as usize],
 }
 

@@ -106,6 +106,7 @@ pub(crate) fn restrict_form(
     })
 }
 
+// Not one function with `check_form`: each promises the sentences of its own command.
 pub(crate) fn revoke_form(mut words: Phrase) -> Result<Sentence, Misworded>
     ensures { Continues command.Revoke words.entry result }
 {

@@ -5,7 +5,7 @@ use crate::sentence::{Command, Restriction};
 use model::kind::Kind;
 use model::privilege::Privilege;
 
-// A value of which each has a word of its own.
+// A value of which each has a word of its own. The three impls are three tables: no code is in them.
 pub trait Keyword: Copy + 'static {
     ghost word: { Self → List ℕ };
 

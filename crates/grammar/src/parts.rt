@@ -84,6 +84,7 @@ impl Part for Principal {
     }
 }
 
+// One impl for each case of a token: each says its own slot and word.
 impl Part for Object {
     ghost slot = { an_object };
 

@@ -15,6 +15,7 @@ const PRINCIPALS: usize = USERS as usize + ROLES as usize;
 #[derive(Drop)]
 pub struct BitRows {
     levels: Levels,
+    // of a fixed length: nothing here may allocate
     rows: [RoleSet; PRINCIPALS],
     len: usize,
     ghost wide: { length rows ≡ 128 },

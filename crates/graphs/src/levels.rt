@@ -9,6 +9,7 @@ use model::principal::{Principal, ROLES, is_role_level, user_level};
 
 #[derive(Drop)]
 pub(crate) struct Levels {
+    // of a fixed length: nothing here may allocate
     of_roles: [Option<u8>; ROLES as usize],
     ghost sized: { length of_roles ≡ 64 },
     ghost low: { Low of_roles },

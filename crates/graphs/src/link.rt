@@ -30,8 +30,8 @@ impl Link {
     }
 }
 
-// Both graphs ask this in a `takes_link` of their own: `add` cannot call a function over any `Graph`,
-// since that may call `add` again.
+// Both graphs ask this in a `takes_link` of their own, and have an `add` and a `cut` of their own: none
+// of these can call a function over any `Graph`, since that may call it again.
 pub(crate) fn has_room(count: usize) -> bool
     ensures { result ≡ nat_lt count 256 }
 {

@@ -73,7 +73,8 @@ impl<'a> LinkList<'a> {
         self.links[..self.len].iter().position(|held| *held == link)
     }
 
-    // Whether a chain leads on through one of the first `left` links, or has arrived.
+    // Whether a chain leads on through one of the first `left` links, or has arrived. By a number and
+    // no iterator: the measure counts the links left to try.
     #[cycle(follow_follow_link)]
     fn follow(&self, from: Principal, to: Principal, left: usize) -> bool
         requires { left ≤ self.now.len }

@@ -23,8 +23,8 @@ pub trait Store<S: Scale> {
     fn pairs_in_use(&self, object: u8) -> usize
         ensures { result ≡ pairs (joining S.Scale.states) (cells self.now) object };
 
-    // Whether a granter and a grantee have a cell at an object. No type for the three: they are asked
-    // about here alone, and elsewhere stand in a place.
+    // Whether a granter and a grantee have a cell at an object. No type of the model for the three: the
+    // list has one of its own, and the table one of two numbers in range.
     fn is_pair_in_use(&self, object: u8, granter: Principal, grantee: Principal) -> bool
         ensures { result ≡ in_use (joining S.Scale.states) (cells self.now) object granter grantee };
 

@@ -48,6 +48,7 @@ fn issuer_of(line: &[u8]) -> Option<(u8, &[u8])>
     let rest = line.strip_prefix(b"u")?;
     let space = first_of(rest, b' ')?;
     let issuer = number(&rest[..space])?;
+    // the limit once more: `number` goes to 99, and the one of reading is its own
     if issuer > 63 {
         return None;
     }

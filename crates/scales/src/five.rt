@@ -14,6 +14,7 @@ pub enum FiveState {
     Deny,
 }
 
+// Its one-line methods look like those of the other scale: each is what a scale owes the trait.
 impl Scale for FiveState {
     ghost states = { five };
 

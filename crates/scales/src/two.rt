@@ -11,6 +11,7 @@ pub enum TwoState {
     Grant,
 }
 
+// Its one-line methods look like those of the other scale: each is what a scale owes the trait.
 impl Scale for TwoState {
     ghost states = { two };
 

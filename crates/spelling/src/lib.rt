@@ -37,6 +37,7 @@ fn object_body(heap: Global, object: u8, kind: Kind, owner: u8) -> Result<Body, 
         .principal(Principal::User(owner))
 }
 
+// This and the next take what a sentence holds, field by field, as the statements name it.
 fn granted(
     heap: Global,
     privilege: Privilege,

@@ -45,7 +45,8 @@ pub fn write_all<S: Scale, A: Store<S>, B: Store<S>>(
     ensures after { Alike A.Store B.Store a.old b.old → Alike A.Store B.Store a.new b.new }
 {
     let mut alike = true;
-    // Not by `fold`: of stores that a closure borrows and changes a proof learns nothing.
+    // A loop and no chain: the clause `after` speaks of both stores once all writes are made, and `all`
+    // would stop at the first that is answered otherwise.
     for write in writes {
         alike &= write_both(a, b, write);
     }

@@ -9,7 +9,8 @@ use model::principal::is_role_level;
 use words::iter::Words;
 use words::token::Token;
 
-// That a word's number is too large, and the word's offset in its body.
+// That a word's number is too large, and the word's offset in its body. Not the type of a misworded
+// body's place: `?` tells 7 from 8 by the type.
 #[derive(Clone, Copy)]
 pub(crate) struct LargeNumber {
     pub at: usize,

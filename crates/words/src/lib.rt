@@ -67,7 +67,8 @@ fn space(rest: &[u8]) -> Option<usize>
     rest.iter().position(|b| *b == b' ')
 }
 
-// What stands from an offset on, or nothing past the end.
+// What stands from an offset on, or nothing past the end. Body and offset: the one step of the
+// cursor `Words`.
 fn rest_from(body: &[u8], at: usize) -> Option<&[u8]>
     ensures { MatchOption result (length body.now < at) (λ x. (at ≤ length body.now) × (x.now ≡ slice_range body.now at (length body.now))) }
 {
