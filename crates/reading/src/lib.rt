@@ -15,7 +15,8 @@ use fault::ReadingFault;
 use limits::{is_issuer, is_length};
 use record::Record;
 
-// The record at an offset of the input, or none at the input's end.
+// The record at an offset of the input, or none at the input's end. Input and offset: the statements
+// of the history read a record so.
 #[tactic(auto, using(crate::proofs::Covering::reading_laws))]
 pub fn read(input: &[u8], at: usize) -> Result<Option<Record<'_>>, ReadingFault>
     ensures answer { MatchResult result (λ o. MatchOption o (at ≡ length input.now) (λ x. Reads input.now at x)) (λ f. Refused input.now at f) }
