@@ -1,10 +1,15 @@
 -- What a directory means: the type and the owning user of each object that exists.
-use Rattle.std.specs.Prelude.{◌≡◌, ℕ, Bool, cond, not, ◌&&◌, List, is_some, Some, None, Option, ◌==◌, nat_lt, slice_index_or}
+use Rattle.std.specs.Prelude.{◌≡◌, ℕ, Bool, cond, not, ◌&&◌, List, is_some, Some, None, Option, ◌==◌, nat_lt, slice_index_or, length}
 use Rattle.model.specs.Principals.{object_in_range}
 use Rattle.access.specs.declared.master.Master.{Master}
 
 abbrev pub Masters : Type 0
 Masters = ℕ → Option Master
+
+-- a directory's entries, one for each object
+pub record Table : Type 0 where
+  pub entries : List (Option Master)
+  pub sized : length entries ≡ 32
 
 -- what a table of entries tells of each number
 abbrev pub listed : List (Option Master) → Masters

@@ -114,7 +114,7 @@ impl<T, G: Graph> Access<'_, T, G> {
 
     // GRANT's state, if the user owns the object.
     fn as_owner<S: Scale>(&self, right: Right, user: u8) -> S
-        ensures { Strongest S.Scale.states (AsOwner S.Scale.states (listed self.now.directory.now) right.object user) result }
+        ensures { Strongest S.Scale.states (AsOwner S.Scale.states (listed self.now.directory.now.entries) right.object user) result }
     {
         if self.directory.is_owner(user, right.object) {
             S::granted()
@@ -127,7 +127,7 @@ impl<T, G: Graph> Access<'_, T, G> {
     fn apart_from_roles<S: Scale>(&self, right: Right, principal: Principal) -> S
     where
         T: Store<S>,
-        ensures { Strongest S.Scale.states (Apart S.Scale.states (listed self.now.directory.now) (T.cells self.now.store.now) right.object right.privilege principal) result }
+        ensures { Strongest S.Scale.states (Apart S.Scale.states (listed self.now.directory.now.entries) (T.cells self.now.store.now) right.object right.privilege principal) result }
     {
         match principal {
             Principal::Role(_) => S::unassign(),
@@ -152,9 +152,9 @@ impl<T, G: Graph> Access<'_, T, G> {
     pub fn answer<S: Scale>(&self, right: Right, principal: Principal) -> S
     where
         T: Store<S>,
-        ensures answer { IsAnswer S.Scale.states (G.meaning self.now.graph.now) (listed self.now.directory.now) (T.cells self.now.store.now) right.object right.privilege principal result }
-        ensures only { (s : S) → IsAnswer S.Scale.states (G.meaning self.now.graph.now) (listed self.now.directory.now) (T.cells self.now.store.now) right.object right.privilege principal s → s ≡ result }
-        ensures between { BetweenRoles S.Scale.states (G.meaning self.now.graph.now) (listed self.now.directory.now) (T.cells self.now.store.now) }
+        ensures answer { IsAnswer S.Scale.states (G.meaning self.now.graph.now) (listed self.now.directory.now.entries) (T.cells self.now.store.now) right.object right.privilege principal result }
+        ensures only { (s : S) → IsAnswer S.Scale.states (G.meaning self.now.graph.now) (listed self.now.directory.now.entries) (T.cells self.now.store.now) right.object right.privilege principal s → s ≡ result }
+        ensures between { BetweenRoles S.Scale.states (G.meaning self.now.graph.now) (listed self.now.directory.now.entries) (T.cells self.now.store.now) }
     {
         self.store.sound();
         roles().fold(self.apart_from_roles(right, principal), |best, role| {

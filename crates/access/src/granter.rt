@@ -25,7 +25,7 @@ impl<T, G: Graph> Access<'_, T, G> {
     fn gives_as_itself<S: Scale>(&self, right: Right, user: u8) -> bool
     where
         T: Store<S>,
-        ensures { Decides result (InOwnRight (listed self.now.directory.now) (T.cells self.now.store.now) user right.object right.privilege) }
+        ensures { Decides result (InOwnRight (listed self.now.directory.now.entries) (T.cells self.now.store.now) user right.object right.privilege) }
     {
         self.directory.is_owner(user, right.object)
             || self.is_optioned(right, Principal::User(user))
@@ -55,8 +55,8 @@ impl<T, G: Graph> Access<'_, T, G> {
     pub fn granter<S: Scale>(&self, right: Right, user: u8) -> Option<Principal>
     where
         T: Store<S>,
-        ensures answer { GranterIs (G.meaning self.now.graph.now) (listed self.now.directory.now) (T.cells self.now.store.now) user right.object right.privilege result }
-        ensures only { (q : Option Principal) → GranterIs (G.meaning self.now.graph.now) (listed self.now.directory.now) (T.cells self.now.store.now) user right.object right.privilege q → q ≡ result }
+        ensures answer { GranterIs (G.meaning self.now.graph.now) (listed self.now.directory.now.entries) (T.cells self.now.store.now) user right.object right.privilege result }
+        ensures only { (q : Option Principal) → GranterIs (G.meaning self.now.graph.now) (listed self.now.directory.now.entries) (T.cells self.now.store.now) user right.object right.privilege q → q ≡ result }
     {
         if self.gives_as_itself(right, user) {
             return Some(Principal::User(user));

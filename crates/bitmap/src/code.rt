@@ -1,5 +1,5 @@
 // A row's bits read and written, and the item that is made from a row.
-ghost use Rattle.std.specs.Prelude.{◌≡◌, ◌+◌, ◌<◌, true, if◌then◌else◌, Decides, MatchOption};
+ghost use Rattle.std.specs.Prelude.{◌≡◌, ◌+◌, ◌<◌, true, if◌then◌else◌, Decides, IfSome, MatchOption};
 ghost use Rattle.bits.specs.Bit.{bit};
 ghost use Rattle.model.specs.Allowed.{Allowed, is_allowed};
 ghost use Rattle.model.specs.Privileges.{bit as bit_of};
@@ -206,15 +206,19 @@ impl Item {
 
     // The item with a privilege's cell changed, if the cell is an allowed one.
     pub fn with(self, privilege: Privilege, cell: &Cell<FiveState>) -> Option<Item>
-        ensures { MatchOption result (Allowed five cell.now → ⊥)
+        ensures cells { MatchOption result (Allowed five cell.now → ⊥)
             (λ item. CellSet self.row item.row (bit_of privilege) cell.now) }
+        ensures granter { IfSome result (λ item. item.row.granter ≡ self.row.granter) }
+        ensures grantee { IfSome result (λ item. item.row.grantee ≡ self.row.grantee) }
     {
         cell.is_allowed().then(|| self.with_cell(privilege, *cell))
     }
 
     pub(crate) fn with_cell(self, privilege: Privilege, cell: Cell<FiveState>) -> Item
         requires { is_allowed five cell ≡ true }
-        ensures { CellSet self.row result.row (bit_of privilege) cell }
+        ensures cells { CellSet self.row result.row (bit_of privilege) cell }
+        ensures granter { result.row.granter ≡ self.row.granter }
+        ensures grantee { result.row.grantee ≡ self.row.grantee }
     {
         let code = encoded(cell.state, cell.orientation);
         Item {

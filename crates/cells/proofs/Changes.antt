@@ -5,15 +5,13 @@ use Rattle.model.specs.States.{States, Lawful}
 use Rattle.model.specs.Allowed.{unassigned}
 use Rattle.model.specs.Folds.{one_if}
 use Rattle.model.specs.Places.{place_in_range}
-use Rattle.model.specs.Stores.{Cells, put}
+use Rattle.model.specs.Stores.{put}
 use Rattle.model.specs.declared.place.Place.{Place}
 use Rattle.model.specs.declared.cell.Cell.{Cell}
 use Rattle.model.proofs.Puts.{put_from}
 use Rattle.cells.specs.declared.record.CellRecord.{CellRecord}
 use Rattle.cells.specs.Kept.{place_at, state_at, nowhere, used_in, pairs_in, first_at, Assigned, Ranged, Distinct, Roomy, Kept}
 use Rattle.cells.specs.Listed.{cell_of_record, cell_at, list_cells}
-use Rattle.cells.specs.declared.list.CellList.{CellList}
-use Rattle.cells.specs.Lists.{Becomes}
 use Rattle.cells.proofs.Records.{part_same, part_other, state_cell}
 use Rattle.cells.proofs.Found.{held_none, held_one, held_kept}
 use Rattle.cells.proofs.PairCounts.{used_same, pairs_same, pairs_sub, pairs_step, range_parts}
@@ -234,13 +232,6 @@ module _ {S : Type 0} (s : States S) (law : Lawful s) (u : S) (xs : List (CellRe
         (λ nj. (j, omega arith, rest_at j ne ∙ h, rest_cell j ne))
         (cases_eq j (n - 1)))
         (λ k lk h. let w = from k lk in (w.0, w.1, sym w.2 ∙ h)))
-
--- the same, read off the fields of a list
-pub becomes : {S : Type 0} {g : _} (s : States S) (old new : CellList S g) {cells : Cells S} (xs : List (CellRecord S)) (n : ℕ) → new.memory.now ≡ xs → new.len ≡ n → length xs ≡ length old.memory.now → list_cells s xs n ≡ cells → Becomes s old new cells
-becomes {S} s old new xs n e f long held = record {
-  holds = ap (λ (l : List (CellRecord S)). list_cells s l new.len) e ∙ ap (list_cells s xs) f ∙ held;
-  memory = ap length e ∙ long;
-}
 
 -- a pair that is not in use fits
 pub room_free : (used : Bool) (pairs : ℕ) → (used || ltb pairs 16) ≡ true → used ≡ false → pairs < 16

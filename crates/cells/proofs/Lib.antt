@@ -5,3 +5,4 @@ pub mod Fronts
 pub mod Room
 pub mod Telling
 pub mod Changes
+pub mod Counted

@@ -1,5 +1,5 @@
 -- What a list's records answer is what its cells answer.
-use Rattle.std.proofs.Common.{◌≡◌, ℕ, zero, suc, ◌/◌, ◌%◌, ◌<◌, true, false, cond, ◌&&◌, eqb, ◌⊎◌, List, [], ◌∷◌, take, get_or, count_by, fold, sym, refl, ap, ◌∙◌, subst, inl, inr, ⊎_elim, arith}
+use Rattle.std.proofs.Common.{◌≡◌, ℕ, zero, suc, ◌/◌, ◌%◌, ◌<◌, Bool, true, false, cond, ◌&&◌, eqb, ◌⊎◌, List, [], ◌∷◌, take, get_or, count_by, fold, sym, refl, ap, ◌∙◌, subst, inl, inr, ⊎_elim, arith}
 use Rattle.std.specs.List.{list_any, enumerate_from}
 use mathlib.Core.Path.{fun_ext}
 use Rattle.std.proofs.lemmas.Bool.{cases_Bool, eqb-true, eq-eqb, and_parts, and_from, both_ways, cond-true, cond-false, not_from_false, ltb-true}
@@ -172,5 +172,16 @@ new_kept u xs = record {
   roomy = λ o lt. omega (arith, pairs_start (place_at xs) o);
 }
 
-pub new_empty : {S : Type 0} (s : States S) (xs : List (CellRecord S)) → list_cells s xs 0 ≡ no_cells s
-new_empty s xs = fun_ext (λ p. held_none s (place_at xs) (cell_at s xs) 0 p (λ i lt. absurd (omega arith)))
+pub new_ample : {S : Type 0} (s : States S) (law : Lawful s) (m : Bool) (u : S) → u ≡ s.unassign → (m && same s u s.unassign) ≡ m
+new_ample s law m u e = ap (λ (b : Bool). m && b) (((join_laws s law).told_apart u s.unassign).1 e) ∙ and_true m
+  where
+    and_true : (b : Bool) → (b && true) ≡ b
+    and_true true = refl
+    and_true false = refl
+
+pub new_empty : {S : Type 0} (s : States S) (xs : List (CellRecord S)) (b : Bool) → list_cells s xs (cond b 0 0) ≡ no_cells s
+new_empty s xs b = fun_ext (λ p. ap (λ (n : ℕ). list_cells s xs n p) (either b) ∙ held_none s (place_at xs) (cell_at s xs) 0 p (λ i lt. absurd (omega arith)))
+  where
+    either : (b : Bool) → ◌≡◌ {A = ℕ} (cond b 0 0) 0
+    either true = refl
+    either false = refl

@@ -3,7 +3,7 @@ ghost use Rattle.std.specs.Prelude.{◌≡◌, ◌<◌, true, ◌||◌, length, 
 ghost use Rattle.model.specs.Allowed.{unassigned as unassigned_of};
 ghost use Rattle.model.specs.Stores.{put, after_write};
 ghost use Rattle.cells.specs.Kept.{Kept, place_at};
-ghost use Rattle.cells.specs.Lists.{cells_of, IsAt, IsAbsent, IsHoldable, Becomes, has_room as has_room_of};
+ghost use Rattle.cells.specs.Lists.{cells_of, counted, IsAt, IsAbsent, IsHoldable, Becomes, has_room as has_room_of};
 
 use crate::list::CellList;
 use crate::reads::{count_pairs, find, is_pair_used};
@@ -23,23 +23,24 @@ impl<'a, S: Scale> CellList<'a, S> {
     // One record is written where it lies, and so many count from then on.
     fn rewrite(&mut self, i: usize, slot: CellRecord<S>, len: usize)
         requires inside { i < length self.old.memory.now }
-        requires kept { Kept S.Scale.states.unassign (slice_set self.old.memory.now i slot) len }
+        requires kept { Kept self.old.unassign (slice_set self.old.memory.now i slot) len }
         ensures memory { self.new.memory.now ≡ slice_set self.old.memory.now i slot }
         ensures count { self.new.len ≡ len }
+        ensures unassign { self.new.unassign ≡ self.old.unassign }
     {
         self.memory[i] = slot;
         self.len = len;
     }
 
     fn position(&self, place: Place) -> Option<usize>
-        ensures { MatchOption result (IsAbsent self.now place) (IsAt self.now place) }
+        ensures { MatchOption result (IsAbsent S.Scale.states self.now place) (IsAt S.Scale.states self.now place) }
     {
         find(self.records(), place)
     }
 
     // Writes another cell into record i.
     fn replace(&mut self, i: usize, place: Place, cell: &Cell<S>)
-        requires own { IsAt self.old place i }
+        requires own { IsAt S.Scale.states self.old place i }
         requires holdable { IsHoldable S.Scale.states self.old place cell.now }
         ensures { Becomes S.Scale.states self.old self.new (put (cells_of S.Scale.states self.old) place cell.now) }
     {
@@ -49,8 +50,8 @@ impl<'a, S: Scale> CellList<'a, S> {
 
     // Adds a record at the end.
     fn add(&mut self, place: Place, cell: &Cell<S>)
-        requires absent { IsAbsent self.old place }
-        requires room { has_room_of self.old place ≡ true }
+        requires absent { IsAbsent S.Scale.states self.old place }
+        requires room { has_room_of S.Scale.states self.old place ≡ true }
         requires holdable { IsHoldable S.Scale.states self.old place cell.now }
         ensures { Becomes S.Scale.states self.old self.new (put (cells_of S.Scale.states self.old) place cell.now) }
     {
@@ -61,7 +62,7 @@ impl<'a, S: Scale> CellList<'a, S> {
 
     // Strikes record i out: the last one takes its slot.
     fn strike(&mut self, i: usize)
-        requires { i < self.old.len }
+        requires { i < counted S.Scale.states self.old }
         ensures { Becomes S.Scale.states self.old self.new (put (cells_of S.Scale.states self.old) (place_at self.old.memory.now i) (unassigned_of S.Scale.states)) }
     {
         let last = self.len - 1;
@@ -79,7 +80,7 @@ impl<'a, S: Scale> CellList<'a, S> {
     }
 
     fn has_room(&self, place: Place) -> bool
-        ensures { result ≡ has_room_of self.now place }
+        ensures { result ≡ has_room_of S.Scale.states self.now place }
     {
         let records = self.records();
         pair_fits(
@@ -91,7 +92,7 @@ impl<'a, S: Scale> CellList<'a, S> {
     // Writes a cell that is not unassign, if its pair is in use or fits.
     pub(crate) fn assign(&mut self, place: Place, cell: &Cell<S>) -> bool
         requires { IsHoldable S.Scale.states self.old place cell.now }
-        ensures told { result ≡ has_room_of self.old place }
+        ensures told { result ≡ has_room_of S.Scale.states self.old place }
         ensures after { Becomes S.Scale.states self.old self.new (after_write (cells_of S.Scale.states self.old) place cell.now result) }
     {
         if let Some(i) = self.position(place) {

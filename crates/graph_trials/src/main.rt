@@ -44,13 +44,14 @@ fn all_calls(rt: &HostRuntime, text: &str) -> anyhow::Result<Vec<Call>> {
 fn print_short(rt: &HostRuntime, memory: &mut [Link], calls: &[Call]) -> anyhow::Result<()> {
     let records = memory.len();
     let mut list = LinkList::new(memory);
-    let granted: Vec<Call> = calls
-        .iter()
-        .copied()
-        .filter(|call| tell(&mut list, *call) == Told::Flag(true))
-        .collect(rt.alloc())?;
-    let full = granted.iter().any(|call| matches!(call, Call::AskMemory));
-    let added = granted.iter().any(|call| matches!(call, Call::Add(_, _)));
+    // One pass over flags: the calls that were answered yes are not kept.
+    let (full, added) = calls.iter().fold((false, false), |(full, added), call| {
+        let yes = tell(&mut list, *call) == Told::Flag(true);
+        (
+            full || yes && matches!(call, Call::AskMemory),
+            added || yes && matches!(call, Call::Add(_, _)),
+        )
+    });
     println!(rt; "over {records} records: full memory {full}, links added {added}")?;
     Ok(())
 }

@@ -12,25 +12,13 @@ use Rattle.model.specs.Graphs.{Chain, stay, via}
 use Rattle.model.proofs.Chains.{first_link, joined, no_chain_to_user, smaller_less, smaller_right}
 use Rattle.graphs.specs.Levels.{level_in, on_level, Low, Falling}
 use Rattle.graphs.specs.Rows.{bit_at, row_of, in_rows, some_below, leads, Below}
-use Rattle.graphs.proofs.SingleBits.{no_bit}
 use Rattle.graphs.proofs.RowTables.{row_parts, row_read}
 
--- the row of one role
-pub row_leads : (levels : List (Option ℕ)) (rows : List ℕ) (set k n j x : ℕ) → k < 64 → j < 64 → bit_at set k ≡ true → on_level (level_in levels k) n ≡ true → x ≡ get_or rows (64 + k) 0 → bit_at x j ≡ leads levels rows set n j k
+-- the row of one role, or no row
+pub row_leads : (levels : List (Option ℕ)) (rows : List ℕ) (set k n j x : ℕ) (t : Bool) → k < 64 → j < 64 → t ≡ (bit_at set k && on_level (level_in levels k) n) → bit_at x j ≡ (t && bit_at (get_or rows (64 + k) 0) j) → bit_at x j ≡ leads levels rows set n j k
 unfolding leads
-row_leads levels rows set k n j x l m a b e =
-    ap (λ y. bit_at y j) e ∙ row_read rows (Role k) j (lt-ltb k 64 l) m ∙ sym (ap (λ y. y && in_rows rows (Role k) j) (and_from _ _ a b))
-
--- no row
-pub leads_none : (levels : List (Option ℕ)) (rows : List ℕ) (set k n j x : ℕ) → (bit_at set k ≡ false) ⊎ (on_level (level_in levels k) n ≡ false) → x ≡ 0 → bit_at x j ≡ leads levels rows set n j k
-unfolding leads
-leads_none levels rows set k n j x h e =
-    ap (λ y. bit_at y j) e ∙ no_bit j ∙ sym (ap (λ b. b && in_rows rows (Role k) j) (neither _ _ h))
-  where
-    neither : (a b : Bool) → (a ≡ false) ⊎ (b ≡ false) → (a && b) ≡ false
-    neither true b (inl e) = absurd (clash (sym e))
-    neither true b (inr e) = e
-    neither false b h = refl
+row_leads levels rows set k n j x t l m e h =
+    h ∙ ap (λ b. b && bit_at (get_or rows (64 + k) 0) j) e ∙ ap (λ b. (bit_at set k && on_level (level_in levels k) n) && b) (row_read rows (Role k) j (lt-ltb k 64 l) m)
 
 -- one role more in a union of rows
 pub union_more : (levels : List (Option ℕ)) (rows : List ℕ) (set n a b x k j : ℕ) (ks : List ℕ) → bit_at b j ≡ (bit_at x j || bit_at a j) → bit_at x j ≡ leads levels rows set n j k

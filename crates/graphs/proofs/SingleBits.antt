@@ -1,5 +1,5 @@
 -- Single bits of a set of roles.
-use Rattle.std.proofs.Common.{◌≡◌, ℕ, zero, suc, ◌*◌, ◌%◌, ◌^◌, ◌<◌, false, not, ◌&&◌, ◌||◌, max, eqb, sym, refl, ap, ◌∙◌, ⊎_elim, arith, eq-eqb, ne_eqb, w64}
+use Rattle.std.proofs.Common.{◌≡◌, ℕ, zero, suc, ◌*◌, ◌%◌, ◌^◌, ◌<◌, Bool, true, false, cond, not, ◌&&◌, ◌||◌, max, eqb, sym, refl, ap, ◌∙◌, ⊎_elim, arith, eq-eqb, ne_eqb, w64}
 use Rattle.std.specs.Int.{bit_not}
 use lib.Bits.{bit_and, bit_or}
 use Rattle.std.proofs.lemmas.Bool.{cases_eq}
@@ -38,3 +38,7 @@ bit_at-without n k j l m =
 pub no_bit : (k : ℕ) → bit_at 0 k ≡ false
 unfolding bit_at
 no_bit k = ap (λ n. eqb n 1) (bit_at-zero k)
+
+pub bit_if : (t : Bool) (x j : ℕ) → bit_at (cond t x 0) j ≡ (t && bit_at x j)
+bit_if true x j = refl
+bit_if false x j = no_bit j

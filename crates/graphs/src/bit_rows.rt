@@ -1,5 +1,5 @@
 // A role graph as rows of bits: for each of the 128 principals the roles that its links lead to.
-ghost use Rattle.std.specs.Prelude.{◌≡◌, ℕ, ◌<◌, true, ◌||◌, length, slice_index};
+ghost use Rattle.std.specs.Prelude.{◌≡◌, ℕ, ◌<◌, true, ◌||◌, length, replicate, slice_index};
 ghost use Rattle.model.specs.Principals.{in_range};
 ghost use Rattle.graphs.specs.Levels.{Kept};
 ghost use Rattle.graphs.specs.Rows.{row_of, in_rows, bit_at, some_below, leads, Below};
@@ -22,6 +22,12 @@ pub struct BitRows {
     ghost kept: { Kept levels.of_roles (in_rows rows) len },
 }
 
+fn no_links() -> [RoleSet; PRINCIPALS]
+    ensures { result ≡ replicate 128 0 }
+{
+    [RoleSet::new(); PRINCIPALS]
+}
+
 // The rows of the users come first, then those of the roles.
 fn row_of(principal: Principal) -> usize
     requires { in_range principal ≡ true }
@@ -41,7 +47,7 @@ impl BitRows {
     {
         BitRows {
             levels: Levels::new(),
-            rows: [RoleSet::new(); PRINCIPALS],
+            rows: no_links(),
             len: 0,
         }
     }
@@ -76,16 +82,14 @@ impl BitRows {
         self.len -= 1;
     }
 
-    // The row of a role, if it is in the set and has the level.
+    // The row of a role, if it is in the set and has the level. It reads the row and asks both in any
+    // case, and takes no branch on the set: the time of `reaches` is not to depend on the links.
     fn row_on_level(&self, set: RoleSet, role: u8, level: u8) -> RoleSet
         requires { role < 64 }
         ensures { (j : ℕ) → j < 64 → bit_at result j ≡ leads self.now.levels.of_roles self.now.rows set level j role }
     {
-        if set.contains(role) && self.levels.is_on(role, level) {
-            self.row(Principal::Role(role))
-        } else {
-            RoleSet::new()
-        }
+        let taken = set.contains(role) & self.levels.is_on(role, level);
+        self.row(Principal::Role(role)).only_if(taken)
     }
 
     // The set, with the roles that links lead to from its roles of a level.
@@ -132,7 +136,7 @@ impl Graph for BitRows {
     }
 
     fn add(&mut self, upper: Principal, lower: u8) -> bool {
-        let link = Link { upper, lower };
+        let link = Link::new(upper, lower);
         let takes = self.takes_link(link);
         if takes {
             self.put(link);
@@ -143,13 +147,13 @@ impl Graph for BitRows {
     fn cut(&mut self, upper: Principal, lower: u8) -> bool {
         let linked = self.linked(upper, lower);
         if linked {
-            self.take_out(Link { upper, lower });
+            self.take_out(Link::new(upper, lower));
         }
         linked
     }
 
     fn linked(&self, upper: Principal, lower: u8) -> bool {
-        let link = Link { upper, lower };
+        let link = Link::new(upper, lower);
         link.is_in_range() && self.row(upper).contains(lower)
     }
 

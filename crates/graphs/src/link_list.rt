@@ -125,7 +125,7 @@ impl<'a> Graph for LinkList<'a> {
     }
 
     fn add(&mut self, upper: Principal, lower: u8) -> bool {
-        let link = Link { upper, lower };
+        let link = Link::new(upper, lower);
         let takes = self.takes_link(link);
         if takes {
             self.put(link);
@@ -134,7 +134,7 @@ impl<'a> Graph for LinkList<'a> {
     }
 
     fn cut(&mut self, upper: Principal, lower: u8) -> bool {
-        let Some(place) = self.position(Link { upper, lower }) else {
+        let Some(place) = self.position(Link::new(upper, lower)) else {
             return false;
         };
         self.take_out(place);
@@ -142,7 +142,7 @@ impl<'a> Graph for LinkList<'a> {
     }
 
     fn linked(&self, upper: Principal, lower: u8) -> bool {
-        self.position(Link { upper, lower }).is_some()
+        self.position(Link::new(upper, lower)).is_some()
     }
 
     fn count(&self) -> usize {

@@ -1,6 +1,6 @@
 // Sets of roles. Crate `bits` reads and writes words of 32 bits: a trait over both widths would only
 // say each of these expressions once more in each of its two impls.
-ghost use Rattle.std.specs.Prelude.{◌≡◌, ℕ, ◌<◌, not, ◌&&◌, ◌||◌, ◌==◌};
+ghost use Rattle.std.specs.Prelude.{◌≡◌, ℕ, ◌<◌, not, ◌&&◌, ◌||◌, if◌then◌else◌, ◌==◌};
 ghost use Rattle.graphs.specs.Rows.{bit_at};
 
 use std::marker::Model;
@@ -60,5 +60,12 @@ impl RoleSet {
         RoleSet {
             bits: self.bits | other.bits,
         }
+    }
+
+    // The set, or none of its roles.
+    pub(crate) fn only_if(self, taken: bool) -> RoleSet
+        ensures { result ≡ (if taken then self else 0) }
+    {
+        if taken { self } else { RoleSet::new() }
     }
 }

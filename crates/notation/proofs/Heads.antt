@@ -37,6 +37,21 @@ behind_letter rest n text e =
 pub spaced : (rest : List ℕ) (n : ℕ) (text : List ℕ) → n ≤ 99 → 117 ∷ rest ≡ head n ++ text → position (λ b. eqb b 32) rest ≡ Some (length (decimal n))
 spaced rest n text m e = ap (position (λ b. eqb b 32)) (behind_letter rest n text e) ∙ space_at n text m
 
+-- no number of a user is longer than two digits: its space stands among three bytes
+pub spaced_soon : (rest : List ℕ) (n : ℕ) (text : List ℕ) → n ≤ 99 → 117 ∷ rest ≡ head n ++ text → position (λ b. eqb b 32) (take 3 rest) ≡ Some (length (decimal n))
+spaced_soon rest n text m e =
+    subst (λ r. position (λ b. eqb b 32) (take 3 r) ≡ Some (length (decimal n))) (sym (behind_letter rest n text e)) (elim (cases_lt n 10) [
+      | inl l ↦ subst (λ d. position (λ b. eqb b 32) (take 3 (d ++ (32 ∷ text))) ≡ Some (length d)) (sym (decimal_digit n l)) (grind (arith, nat_tests))
+      | inr l ↦ subst (λ d. position (λ b. eqb b 32) (take 3 (d ++ (32 ∷ text))) ≡ Some (length d)) (sym (two_digits n l m)) (grind (arith, nat_tests))
+    ])
+
+-- a space that is found so is the first of all
+pub soon_first : (rest : List ℕ) (space : ℕ) → position (λ b. eqb b 32) (take 3 rest) ≡ Some space → position (λ b. eqb b 32) rest ≡ Some space
+soon_first [] space p = p
+soon_first (a ∷ []) space p = p
+soon_first (a ∷ b ∷ []) space p = p
+soon_first (a ∷ b ∷ c ∷ rest) space p = grind (arith, nat_tests)
+
 -- the number stands before the first space
 pub number_at : (rest : List ℕ) (space n : ℕ) (text : List ℕ) → position (λ b. eqb b 32) rest ≡ Some space → n ≤ 99 → 117 ∷ rest ≡ head n ++ text → (take space rest ≡ decimal n) × (drop space rest ≡ 32 ∷ text)
 number_at rest space n text p m e =

@@ -16,12 +16,12 @@ use Rattle.notation.specs.Shown.{head, shown, line, Statable}
 use Rattle.notation.proofs.Heads.{same_head}
 use Rattle.notation.proofs.Showing.{same_body}
 
--- what a line that begins with an issuer shows after it
-pub shows_body : (l : List ℕ) (n : ℕ) (text : List ℕ) → (n ≤ 63) × (l ≡ head n ++ text) → (f : Frame) → Statable f → line f ≡ l → text ≡ flat_map shown f.body
-shows_body l n text h f s e = sym (same_head f.issuer n (flat_map shown f.body) text s.sound.issuer h.0 (e ∙ h.1)).1
+-- the issuer that a line begins with, and what it shows after it
+pub shows_body : (l : List ℕ) (n : ℕ) (text : List ℕ) → (n ≤ 63) × (l ≡ head n ++ text) → (f : Frame) → Statable f → line f ≡ l → (f.issuer ≡ n) × (text ≡ flat_map shown f.body)
+shows_body l n text h f s e = let k = same_head f.issuer n (flat_map shown f.body) text s.sound.issuer h.0 (e ∙ h.1) in (k.0, sym k.1)
 
 pub same_as_shown : (l : List ℕ) (n : ℕ) (text body : List ℕ) → (n ≤ 63) × (l ≡ head n ++ text) → text ≡ flat_map shown body → (f : Frame) → Statable f → line f ≡ l → f.body ≡ body
-same_as_shown l n text body h t f s e = same_body f.body body (sym (shows_body l n text h f s e) ∙ t)
+same_as_shown l n text body h t f s e = same_body f.body body (sym (shows_body l n text h f s e).1 ∙ t)
 
 -- no two records have one line
 pub same_line : (f g : Frame) → Statable f → Statable g → line f ≡ line g → f ≡ g

@@ -9,6 +9,14 @@ pub(crate) fn is_plain(b: u8) -> bool
     32 <= b && b <= 126 && b != b'\\'
 }
 
+// The digit of a value below sixteen.
+pub(crate) fn hex_digit(d: u8) -> u8
+    requires { d < 16 }
+    ensures { (result ≡ hex d) × (result < 128) }
+{
+    if d < 10 { b'0' + d } else { b'A' - 10 + d }
+}
+
 // The value of a digit, if it is one.
 fn hex_value(c: u8) -> Option<u8>
     ensures { MatchOption result ((d : ℕ) → d < 16 → hex d ≢ c) (λ d. (d < 16) × (hex d ≡ c)) }

@@ -1,5 +1,5 @@
 // The line of a record: read, and added to a file.
-ghost use Rattle.std.specs.Prelude.{◌≡◌, ℕ, ◌≤◌, List, ◌++◌, ◌↔◌, IsTrue, MatchOption, MatchResult, ◌≢◌};
+ghost use Rattle.std.specs.Prelude.{◌≡◌, ℕ, ◌≤◌, List, ◌++◌, take, ◌↔◌, IsTrue, MatchOption, MatchResult, ◌≢◌};
 ghost use Rattle.std.specs.List.{flat_map, AllByRecursion};
 ghost use Rattle.notation.specs.Shown.{head, shown, Byte, Passes};
 ghost use Rattle.notation.specs.Adding.{Added, NotAdded, of_write};
@@ -41,12 +41,20 @@ impl From<WriteFault> for LineFault {
     }
 }
 
+// Where the space behind the number of a user would stand, and no further: a line without one is not
+// gone through.
+fn front(rest: &[u8]) -> &[u8]
+    ensures { result.now ≡ take 3 rest.now }
+{
+    rest.get(..3).unwrap_or(rest)
+}
+
 // The issuer that a line begins with, and the text after it.
 fn issuer_of(line: &[u8]) -> Option<(u8, &[u8])>
     ensures { MatchOption result ((n : ℕ) (rest : List ℕ) → n ≤ 63 → line.now ≢ head n ++ rest) (λ x. (x.0 ≤ 63) × (line.now ≡ head x.0 ++ x.1.now)) }
 {
     let rest = line.strip_prefix(b"u")?;
-    let space = first_of(rest, b' ')?;
+    let space = first_of(front(rest), b' ')?;
     let issuer = number(&rest[..space])?;
     // the limit once more: `number` goes to 99, and the one of reading is its own
     if issuer > 63 {

@@ -5,7 +5,7 @@ ghost use Rattle.reading.specs.Records.{frame};
 ghost use Rattle.notation.specs.Results.{Listed};
 ghost use Rattle.notation.specs.Shown.{RemarkOn, ended, line, shown};
 
-use crate::escape::is_plain;
+use crate::escape::{hex_digit, is_plain};
 use reading::record::Record;
 use reading::records::Records;
 use std::alloc::{AllocError, Global};
@@ -45,14 +45,17 @@ fn show_body(out: &mut String, body: &[u8]) -> Result<(), AllocError>
     Ok(())
 }
 
-#[tactic(auto, using(std::proofs::lemmas::Fmt::hex_byte, crate::proofs::Showing::shown_escaped))]
+// Digit by digit: of a body of raw bytes the formatter would be most of the time that a listing takes.
+#[tactic(auto, using(crate::proofs::Showing::shown_escaped))]
 fn show_byte(out: &mut String, b: u8) -> Result<(), AllocError>
     ensures { OnOk result (string_bytes out.new ≡ string_bytes out.old ++ shown b) }
 {
     if is_plain(b) {
         return out.push(b as char);
     }
-    write!(out, "\\x{b:02X}")
+    out.push_str("\\x")?;
+    out.push(hex_digit(b / 16) as char)?;
+    out.push(hex_digit(b % 16) as char)
 }
 
 // Nothing behind a sentence; behind any other body a tab and the refusal.

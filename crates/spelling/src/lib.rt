@@ -1,9 +1,10 @@
 // Writing a sentence: the body that spells it.
 #![tactic(auto)]
 
-ghost use Rattle.std.specs.Prelude.{◌≡◌, IfOk};
-ghost use Rattle.words.specs.Words.{join};
-ghost use Rattle.grammar.specs.Sentences.{spell as spell_of};
+ghost use Rattle.std.specs.Prelude.{◌≡◌, [], ◌∷◌, IfOk};
+ghost use Rattle.words.specs.Words.{principal_word, join};
+ghost use Rattle.grammar.specs.Sentences.{first, right_words, spell as spell_of};
+ghost use Rattle.model.specs.declared.principal.Principal.TheVariants.{Role as RoleOf};
 ghost use Rattle.grammar.specs.declared.sentence.Sentence.TheVariants as sentence_of;
 
 mod body;
@@ -20,21 +21,53 @@ use std::alloc::{AllocError, Global};
 fn role_body(heap: Global, role: u8, level: u8) -> Result<Body, AllocError>
     ensures { IfOk result (λ b. b.bytes.items ≡ join (spell_of (sentence_of.Role role level))) }
 {
-    Body::of(heap, Command::Role)?
-        .principal(Principal::Role(role))?
-        .word(b"LEVEL")?
-        .number(level)
+    let mut body = Body::of(heap, Command::Role)?;
+    body.principal(Principal::Role(role))?;
+    body.word(b"LEVEL")?;
+    body.number(level)?;
+    Ok(body)
 }
 
 fn object_body(heap: Global, object: u8, kind: Kind, owner: u8) -> Result<Body, AllocError>
     ensures { IfOk result (λ b. b.bytes.items ≡ join (spell_of (sentence_of.Object object kind owner))) }
 {
-    Body::of(heap, Command::Object)?
-        .object(object)?
-        .word(b"TYPE")?
-        .word(kind.word())?
-        .word(b"OWNER")?
-        .principal(Principal::User(owner))
+    let mut body = Body::of(heap, Command::Object)?;
+    body.object(object)?;
+    body.word(b"TYPE")?;
+    body.word(kind.word())?;
+    body.word(b"OWNER")?;
+    body.principal(Principal::User(owner))?;
+    Ok(body)
+}
+
+// A command's word, and a role and a principal with a word between.
+fn pair_body(
+    heap: Global,
+    command: Command,
+    role: u8,
+    word: &[u8],
+    upper: Principal,
+) -> Result<Body, AllocError>
+    ensures { IfOk result (λ b. b.bytes.items ≡ join (first command ∷ principal_word (RoleOf role) ∷ word.now ∷ principal_word upper ∷ [])) }
+{
+    let mut body = Body::of(heap, command)?;
+    body.pair(role, word, upper)?;
+    Ok(body)
+}
+
+// A command's word, and a right and a principal with a word between.
+fn right_body(
+    heap: Global,
+    command: Command,
+    right: Right,
+    word: &[u8],
+    principal: Principal,
+) -> Result<Body, AllocError>
+    ensures { IfOk result (λ b. b.bytes.items ≡ join (first command ∷ right_words right.privilege right.object word.now principal [])) }
+{
+    let mut body = Body::of(heap, command)?;
+    body.right(right, word, principal)?;
+    Ok(body)
 }
 
 // This and the next take what a sentence holds, field by field, as the statements name it.
@@ -47,12 +80,12 @@ fn granted(
 ) -> Result<Body, AllocError>
     ensures { IfOk result (λ b. b.bytes.items ≡ join (spell_of (sentence_of.Grant privilege object grantee option))) }
 {
-    let body = Body::of(heap, Command::Grant)?.right(Right { object, privilege }, b"TO", grantee)?;
+    let right = Right { object, privilege };
+    let mut body = right_body(heap, Command::Grant, right, b"TO", grantee)?;
     if option {
-        body.word(b"OPTION")
-    } else {
-        Ok(body)
+        body.word(b"OPTION")?;
     }
+    Ok(body)
 }
 
 fn restricted(
@@ -65,16 +98,13 @@ fn restricted(
 ) -> Result<Body, AllocError>
     ensures { IfOk result (λ b. b.bytes.items ≡ join (spell_of (sentence_of.Restrict restriction privilege object grantee neutral))) }
 {
-    let body = Body::of(heap, Command::Restrict(restriction))?.right(
-        Right { object, privilege },
-        b"TO",
-        grantee,
-    )?;
+    let right = Right { object, privilege };
+    let mut body = right_body(heap, Command::Restrict(restriction), right, b"TO", grantee)?;
     if neutral {
-        body.word(b"NEUT")?.word(b"ORNT")
-    } else {
-        Ok(body)
+        body.word(b"NEUT")?;
+        body.word(b"ORNT")?;
     }
+    Ok(body)
 }
 
 // The body that spells the sentence.
@@ -88,8 +118,8 @@ pub fn spell(heap: Global, sentence: Sentence) -> Result<Vec<u8>, AllocError>
             kind,
             owner,
         } => object_body(heap, object, kind, owner)?,
-        Sentence::Link { role, upper } => Body::of(heap, Command::Link)?.pair(role, b"TO", upper)?,
-        Sentence::Cut { role, upper } => Body::of(heap, Command::Cut)?.pair(role, b"FROM", upper)?,
+        Sentence::Link { role, upper } => pair_body(heap, Command::Link, role, b"TO", upper)?,
+        Sentence::Cut { role, upper } => pair_body(heap, Command::Cut, role, b"FROM", upper)?,
         Sentence::Grant {
             privilege,
             object,
@@ -107,12 +137,24 @@ pub fn spell(heap: Global, sentence: Sentence) -> Result<Vec<u8>, AllocError>
             privilege,
             object,
             grantee,
-        } => Body::of(heap, Command::Revoke)?.right(Right { object, privilege }, b"FROM", grantee)?,
+        } => right_body(
+            heap,
+            Command::Revoke,
+            Right { object, privilege },
+            b"FROM",
+            grantee,
+        )?,
         Sentence::Check {
             privilege,
             object,
             principal,
-        } => Body::of(heap, Command::Check)?.right(Right { object, privilege }, b"FOR", principal)?,
+        } => right_body(
+            heap,
+            Command::Check,
+            Right { object, privilege },
+            b"FOR",
+            principal,
+        )?,
     };
     Ok(body.bytes)
 }

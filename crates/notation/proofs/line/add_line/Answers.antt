@@ -22,7 +22,7 @@ pub returns-in_err-body : goal.returns-in_err-body
 returns-in_err-body c =
     let p = err_from_is_err_and c.from_residual-in_err-body.result c.from_residual-in_err-body.ensures.1 in
     rw (p.1, p.2) (
-      λ u f s q e. c.in_err-body.ensures u f.body s.bytes (shows_body c.args.line.now c.in_ok-issuer.issuer c.in_ok-issuer.text.now (begins (goal.at.returns-in_err-body c).In_ok-issuer) f s e),
+      λ u f s q e. c.in_err-body.ensures u f.body s.bytes (shows_body c.args.line.now c.in_ok-issuer.issuer c.in_ok-issuer.text.now (begins (goal.at.returns-in_err-body c).In_ok-issuer) f s e).1,
       refl {A = List ℕ},
     )
 

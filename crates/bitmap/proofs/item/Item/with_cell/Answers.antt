@@ -19,8 +19,8 @@ invariant_of-result c =
     let set = placed a.privilege a.cell c.bit.ensures.value c.encoded-code.ensures.value c.with_code.ensures in
     record { valid = set_valid a.self.row c.with_code.result (bit a.privilege) a.cell (bit_below a.privilege) c.requires set a.self.valid }
 
-pub returns : goal.returns
-returns c =
+pub returns-clause-cells : goal.returns-clause-cells
+returns-clause-cells c =
     let a = c.args in
     let set = placed a.privilege a.cell c.bit.ensures.value c.encoded-code.ensures.value c.with_code.ensures in
     record {

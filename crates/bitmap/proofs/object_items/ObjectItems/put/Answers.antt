@@ -11,7 +11,7 @@ invariant_of-self c =
     let a = c.args in
     let was = a.self.now in
     let x = c.given_to-item.result in
-    let set = set_as was.rows a.i x a.pair a.privilege a.cell was.sixteen c.requires.item c.item.ensures c.with_cell.ensures c.given_to-item.ensures in
+    let set = set_as was.rows a.i x a.pair a.privilege a.cell was.sixteen c.requires.item c.item.ensures c.with_cell.ensures.cells c.given_to-item.ensures in
     let is = sym c.put_back.ensures in
     record {
       sixteen = sym (ap length is) ∙ length-set was.rows a.i x.row ∙ was.sixteen;
@@ -24,5 +24,5 @@ pub returns : goal.returns
 returns c =
     let a = c.args in
     let was = a.self.now in
-    let set = set_as was.rows a.i c.given_to-item.result a.pair a.privilege a.cell was.sixteen c.requires.item c.item.ensures c.with_cell.ensures c.given_to-item.ensures in
+    let set = set_as was.rows a.i c.given_to-item.result a.pair a.privilege a.cell was.sixteen c.requires.item c.item.ensures c.with_cell.ensures.cells c.given_to-item.ensures in
     subst (λ (rows : List Row). ItemSet (items_of was.rows) (items_of rows) a.i (pair_of a.pair.granter a.pair.grantee) (bit a.privilege) a.cell) (sym c.put_back.ensures) (row_item_set set)

@@ -1,7 +1,11 @@
+use Rattle.cells.specs.Lists.{counted}
+use Rattle.cells.proofs.Counted.{counted_kept}
 use Rattle.cells.proofs.Telling.{tell_strongest}
 use Rattle.cells.proofs.store.CellListStore.strongest.Goals as goal
 
 pub returns : goal.returns
 returns g c =
+    let s = g.S.Scale.states in
     let t = c.args.self.now in
-    cc (tell_strongest g.S.Scale.states g.met.S.Scale.lawful t.memory.now t.len t.kept c.args.right c.args.grantee c.args.orientation)
+    let kept = counted_kept s t g.met.S.Scale.lawful in
+    cc (tell_strongest s g.met.S.Scale.lawful t.memory.now (counted s t) kept c.args.right c.args.grantee c.args.orientation)

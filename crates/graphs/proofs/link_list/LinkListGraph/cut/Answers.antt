@@ -6,5 +6,7 @@ use Rattle.graphs.proofs.link_list.LinkListGraph.cut.Goals as goal
 
 pub returns-clause-after : goal.returns-clause-after
 returns-clause-after c =
+    let g = list_graph c.args.self.now in
     let e = c.in-Some.ensures in
-    c.take_out.ensures.after ∙ ap (λ x. without_link (list_graph c.args.self.now) x.upper x.lower) e.place.1 ∙ sym (cond-true _ _ _ (sym e.stands))
+    let stood = e.stands ∙ ap (λ x. g.linked x.upper x.lower) c.new.ensures in
+    c.take_out.ensures.after ∙ ap (λ x. without_link g x.upper x.lower) (e.place.1 ∙ c.new.ensures) ∙ sym (cond-true _ _ _ (sym stood))
