@@ -1,5 +1,5 @@
 // Links between principals and roles.
-ghost use Rattle.std.specs.Prelude.{◌≡◌, ◌&&◌, nat_lt};
+ghost use Rattle.std.specs.Prelude.{◌≡◌, ◌&&◌, nat_lt, Decides};
 ghost use Rattle.model.specs.Principals.{in_range};
 ghost use Rattle.graphs.specs.Records.{link};
 
@@ -27,6 +27,18 @@ impl Link {
         ensures { result ≡ in_range self.upper && nat_lt self.lower 64 }
     {
         self.upper.is_in_range() && self.lower < ROLES
+    }
+}
+
+// Whether two principals are one, kind by kind: the derived `==` asks for the kind once more before it
+// compares the numbers, and the link list asks this of each record that it tries.
+pub(crate) fn is_one(a: Principal, b: Principal) -> bool
+    ensures { Decides result (a ≡ b) }
+{
+    match (a, b) {
+        (Principal::User(m), Principal::User(n)) => m == n,
+        (Principal::Role(m), Principal::Role(n)) => m == n,
+        _ => false,
     }
 }
 

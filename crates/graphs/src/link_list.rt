@@ -6,7 +6,7 @@ ghost use Rattle.graphs.specs.Levels.{Kept};
 ghost use Rattle.graphs.specs.Records.{held, at_place, Distinct};
 
 use crate::levels::Levels;
-use crate::link::{LINKS, Link, has_room};
+use crate::link::{LINKS, Link, has_room, is_one};
 use model::graph::Graph;
 use model::principal::Principal;
 
@@ -82,7 +82,7 @@ impl<'a> LinkList<'a> {
         ensures itself { from ≡ to → result ≡ true }
         ensures complete { (k : ℕ) → k < left → (at_place self.now.links.now k).upper ≡ from → Chain (list_graph self.now).linked (Role (at_place self.now.links.now k).lower) to → result ≡ true }
     {
-        if from == to {
+        if is_one(from, to) {
             return true;
         }
         if left == 0 {
@@ -90,7 +90,7 @@ impl<'a> LinkList<'a> {
         }
         let place = left - 1;
         let link = self.links[place];
-        if link.upper == from && self.follow_link(place, to) {
+        if is_one(link.upper, from) && self.follow_link(place, to) {
             return true;
         }
         self.follow(from, to, place)

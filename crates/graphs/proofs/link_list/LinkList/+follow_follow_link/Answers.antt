@@ -6,8 +6,8 @@ use Rattle.graphs.specs.Records.{link, at_place}
 use Rattle.graphs.proofs.RecordLists.{held_at, follows_first, falls_less}
 use Rattle.graphs.proofs.link_list.LinkList.+follow_follow_link.Goals as goal
 
-pub follow-returns-then-eq-clause-sound : goal.follow-returns-then-eq-clause-sound
-follow-returns-then-eq-clause-sound t c =
+pub follow-returns-then-is_one-clause-sound : goal.follow-returns-then-is_one-clause-sound
+follow-returns-then-is_one-clause-sound t c =
     let same : c.args.from ≡ c.args.to = search rules in λ _. stay_at _ _ same
 
 pub follow-follow_link-requires : goal.follow-follow_link-requires
